@@ -44,6 +44,7 @@ PACKAGES = {
     "redis-server": "apt-get install redis-server",
     "rt": "the toolchain of Rattle, whose folder of commands stands in PATH",
     "strace": "apt-get install strace",
+    "tclsh": "apt-get install tcl",
 }
 FIRST_PORT, LAST_PORT = 10_000, 32_000  # below the ports that a system gives to connections
 LONG = 300  # seconds after which what doesn't come is given up: only a run that fails waits so long

@@ -86,14 +86,17 @@ def ask(address, *words, password=None, timeout=1.0):
 class Lab:
     """A master d0 with replicas d1 .., and Sentinels s0 .. of a kind each: `ours` or `redis`. `own` has the quorum and down-after of single Sentinels, by
     place; replicas know the master by the name `replicaof`, where there is one; `has_fsync` is whether stores can be made slow, which needs `cc`. The file of each
-    Sentinel also has `lines`, and the one at a place those of `more`; `port_password` is the one that its port wants. `priorities` has those of replicas, by node."""
+    Sentinel also has `lines`, and the one at a place those of `more`, and that of each data node `store_lines`; `port_password` is the one that its port
+    wants. `priorities` has those of replicas, by node."""
 
     def __init__(
-        self, kinds, nodes=3, after=2000, password=None, quorum=None, timeout=10_000, own=None, replicaof=None, has_fsync=False, lines=(), more=None, port_password=None, priorities=None
+        self, kinds, nodes=3, after=2000, password=None, quorum=None, timeout=10_000, own=None, replicaof=None, has_fsync=False, lines=(), more=None, port_password=None, priorities=None,
+        store_lines=(),
     ):
         self.kinds, self.after, self.password, self.timeout = list(kinds), after, password, timeout
         self.quorum, self.own_settings, self.replicaof = quorum or len(kinds) // 2 + 1, own or {}, replicaof
-        self.lines, self.more, self.port_password, self.priorities = list(lines), more or {}, port_password, priorities or {}
+        self.lines, self.more, self.port_password = list(lines), more or {}, port_password
+        self.priorities, self.store_lines = priorities or {}, list(store_lines)
         self.stores, self.sentinels = [f"d{number}" for number in range(nodes)], [f"s{place}" for place in range(len(kinds))]
         self.names = [*self.stores, *self.sentinels, OBSERVER]
         self.folder = tempfile.mkdtemp(prefix="netlab-")
@@ -184,7 +187,7 @@ class Lab:
         path = f"{folder}/redis.conf"
         if not os.path.exists(path):
             os.mkdir(folder)
-            lines = [f"port {PORT}", f"bind {self.address(name)} 127.0.0.1", "protected-mode no", f"dir {folder}", 'save ""', "repl-diskless-sync-delay 0"]
+            lines = [f"port {PORT}", f"bind {self.address(name)} 127.0.0.1", "protected-mode no", f"dir {folder}", 'save ""', "repl-diskless-sync-delay 0", *self.store_lines]
             if self.password:
                 lines += [f"requirepass {self.password}", f"masterauth {self.password}"]
             if name != "d0":

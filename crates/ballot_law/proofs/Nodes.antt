@@ -3,7 +3,7 @@ use Rattle.std.proofs.Common.{◌≡◌, ℕ, ◌<◌, ◌≤◌, Option, Some, 
 use Rattle.std.specs.Prelude.{All, Contains}
 use Rattle.std.proofs.lemmas.List.Elements.{All-nil, All-cons, All-head, All-tail, All-weaker, All-push, All-append}
 use Rattle.ballot_law.specs.declared.messages.Body.{Body}
-use Rattle.ballot_law.specs.declared.messages.Body.TheVariants.{Ask, Answer, Ping, PingText, InfoAsk, InfoText, Publish, HelloText, ReplicaOf, AddressAsk, AddressAnswer, PortReply, RoleAsk, RoleText, Done}
+use Rattle.ballot_law.specs.declared.messages.Body.TheVariants.{Ask, Answer, Ping, PingText, InfoAsk, InfoText, Publish, HelloText, ReplicaOf, HandOver, AddressAsk, AddressAnswer, PortReply, RoleAsk, RoleText, Done}
 use Rattle.ballot_law.specs.declared.messages.Message.{Message}
 use Rattle.ballot_law.specs.declared.messages.Output.{Output}
 use Rattle.ballot_law.specs.declared.messages.Output.TheVariants.{Send, Tell}
@@ -323,6 +323,7 @@ heard_ok t g reply info sender target (AddressAsk name) ok = silent t g _ refl r
 heard_ok t g reply info sender target InfoAsk ok = hands t g (message_of sender target InfoAsk) ok
 heard_ok t g reply info sender target (Publish it) ok = hands t g (message_of sender target (Publish it)) ok
 heard_ok t g reply info sender target (ReplicaOf addr) ok = hands t g (message_of sender target (ReplicaOf addr)) ok
+heard_ok t g reply info sender target (HandOver heir) ok = hands t g (message_of sender target (HandOver heir)) ok
 heard_ok t g reply info sender target (AddressAnswer shown) ok = hands t g (message_of sender target (AddressAnswer shown)) ok
 heard_ok t g reply info sender target (PortReply shown text) ok = hands t g (message_of sender target (PortReply shown text)) ok
 heard_ok t g reply info sender target RoleAsk ok = hands t g (message_of sender target RoleAsk) ok

@@ -29,6 +29,8 @@ pub enum Command {
     MyId,
     /// `SENTINEL CKQUORUM name`.
     CkQuorum(Option<Name>),
+    /// `SENTINEL FAILOVER name`: the master is to hand over to a replica. Strict ports don't know it.
+    Failover(Option<Name>),
     /// `SENTINEL FLUSHCONFIG`.
     FlushConfig,
     /// `SUBSCRIBE +switch-master`: the connection asks to be told of each new address of a master.

@@ -47,6 +47,10 @@ pub enum Event {
     Disconnected {
         node: NodeName,
     },
+    /// A data node answered with an error that it was told to hand over.
+    Refused {
+        node: NodeName,
+    },
     /// A data node gets this priority, this replication offset, and a link to its master that has been down for so many
     /// seconds, or is up at 0. None is above 2^63 - 1.
     Become {

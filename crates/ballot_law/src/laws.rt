@@ -57,7 +57,7 @@ pub fn law_elected_may_win()
 
 /// The limits of a group as numbers. Definitions and code cite them by name: a group of 64 Sentinels, 16 masters, 256
 /// data nodes of each, names of 64 bytes, epochs up to 2^48 - 1; an input puts out at most 1,536 outputs and an answer
-/// of 65,536 bytes.
+/// of 262,144 bytes.
 pub fn law_limits()
     ensures sentinels { SENTINELS_MAX ≡ 64 }
     ensures masters { MASTERS_MAX ≡ 16 }
@@ -65,7 +65,7 @@ pub fn law_limits()
     ensures names { NAME_MAX ≡ 64 }
     ensures epochs { MAX_EPOCH ≡ 2 ^ 48 - 1 }
     ensures outputs { OUTPUTS_MAX ≡ 1536 }
-    ensures answers { ANSWER_MAX ≡ 65536 }
+    ensures answers { ANSWER_MAX ≡ 262144 }
 {}
 
 /// The periods of the down states and of TILT as numbers, in milliseconds. Definitions and code cite them by name.

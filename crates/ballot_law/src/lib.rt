@@ -39,11 +39,13 @@ pub use laws::{
     law_one_leader, law_periods, law_refusals_happen, law_runs_join,
 };
 pub use memory::NoMemory;
-pub use messages::{ANSWER_MAX, Body, Message, NodeName, Note, OUTPUTS_MAX, Output, SHOWN_MAX};
+pub use messages::{
+    ANSWER_MAX, Body, Heir, Message, NodeName, Note, OUTPUTS_MAX, Output, SHOWN_MAX,
+};
 pub use names::{NAME_MAX, Name};
 pub use node_places::NodePlace;
 pub use ordering::{Placed, ordered};
-pub use periods::{REPLICA_MS, REPORT_MS, STEP_MS, TILT_MS};
+pub use periods::{HAND_OVER_MS, REPLICA_MS, REPORT_MS, STEP_MS, TILT_MS};
 pub use records::{Advertisement, Election, Win};
 pub use replies::{DataRole, Hello, Info, PingReply, Role};
 pub use rosters::{MASTERS_MAX, Member, NODES_MAX, Roster, RosterFault, SENTINELS_MAX, Watched};

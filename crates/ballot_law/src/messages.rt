@@ -17,6 +17,13 @@ pub enum NodeName {
     PortAt(u32),
 }
 
+/// The replica that takes over from a master: its name, which isn't on the wire, and its address.
+#[derive(Clone, Copy, PartialEq, Eq)]
+pub struct Heir {
+    pub node: NodeName,
+    pub addr: Addr,
+}
+
 /// What a message says.
 #[derive(Clone, Drop)]
 pub enum Body {
@@ -51,6 +58,9 @@ pub enum Body {
     HelloText(Hello),
     /// REPLICAOF with the address, or REPLICAOF NO ONE.
     ReplicaOf(Option<Addr>),
+    /// FAILOVER TO with the address of a replica and `HAND_OVER_MS`: a master is to hand over to it. Without one
+    /// FAILOVER ABORT: it is to stay the master.
+    HandOver(Option<Heir>),
     /// A client's question for the address of the master with this name.
     AddressAsk(Name),
     /// The answer to it: none for a name that no master has.
@@ -86,8 +96,8 @@ pub struct Note {
 /// Sentinels, three messages and one order to each of 256 nodes, and one promotion.
 pub const OUTPUTS_MAX: usize = 1_536;
 
-/// The greatest number of bytes of an answer of a Sentinel's port: that of a RESP2 value.
-pub const ANSWER_MAX: usize = 65_536;
+/// The greatest number of bytes of an answer of a Sentinel's port: in redis-sentinel's words 256 replicas have room.
+pub const ANSWER_MAX: usize = 262_144;
 
 /// The greatest number of configurations that one output shows: one of each master.
 pub const SHOWN_MAX: usize = MASTERS_MAX;

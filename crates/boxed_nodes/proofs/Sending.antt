@@ -4,7 +4,7 @@ use Rattle.std.specs.List.{AllByRecursion}
 use Rattle.std.specs.Prelude.{All}
 use Rattle.std.proofs.lemmas.List.Elements.{All-head, All-tail}
 use Rattle.ballot_law.specs.declared.events.Event.{Event}
-use Rattle.ballot_law.specs.declared.events.Event.TheVariants.{Tick, Command as Commanded, Answered as AnswerCame, Pinged, InfoRead, HelloRead, Disconnected, Become, Handed}
+use Rattle.ballot_law.specs.declared.events.Event.TheVariants.{Tick, Command as Commanded, Answered as AnswerCame, Pinged, InfoRead, HelloRead, Disconnected, Refused, Become, Handed}
 use Rattle.ballot_law.specs.declared.messages.Output.{Output}
 use Rattle.ballot_law.specs.declared.messages.Output.TheVariants.{Send, Tell}
 use Rattle.boxed_nodes.specs.Sendable.{IsSendableOutput, IsTakeable}
@@ -21,6 +21,7 @@ within_event (AnswerCame voter m addr down leader epoch) h = tt
 within_event (Pinged node reply) h = tt
 within_event (InfoRead node text) h = tt
 within_event (HelloRead text) h = tt
+within_event (Refused node) h = tt
 within_event (Disconnected node) h = tt
 within_event (Become priority offset link_down) h = tt
 within_event (Handed message) h = tt

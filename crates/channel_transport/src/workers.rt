@@ -6,7 +6,6 @@ use crossbeam_channel::{Receiver, RecvTimeoutError};
 use log::Log;
 use sentinel_conf::ConfStore;
 use sentinel_runtime::{RunState, RunningSentinel, ThreadSeat, Ticker, Which, hear};
-use std::alloc::Global;
 use std::rt::Clock;
 use std::sync::Wait;
 use std::sync::atomic::{AtomicU64, Ordering};
@@ -20,14 +19,13 @@ const LINK_MS: u64 = 50;
 /// halted. Many parameters: each is what this thread alone has, or what it shares with another set of threads.
 pub fn run_timer<J: Which, S: ConfStore, R: Wait + Clock + Log>(
     rt: &R,
-    alloc: Global,
     state: &RunState,
     links: &Links,
     member: &RunningSentinel<J, S>,
     seat: &mut ThreadSeat<J>,
     ending: &AtomicU64,
 ) {
-    let mut ticker = Ticker::new(alloc, member);
+    let mut ticker = Ticker::new(member);
     let mut outlet = links.outlet(rt);
     for _ in rt.forever() {
         if ending.load(Ordering::SeqCst) != 0 {

@@ -1,19 +1,24 @@
 -- No line of an answer holds a CR or LF, so each answer is one value on the wire.
-use Rattle.std.proofs.Common.{◌≡◌, ◌≢◌, ◌+◌, ◌-◌, ◌||◌, ◌&&◌, ◌==◌, not, ℕ, List, [], ◌∷◌, ◌++◌, map, take, length, Option, None, Some, Bool, true, false, codes, refl, sym, ◌∙◌, ap, subst, arith}
-use Rattle.std.specs.Prelude.{nat_lt, nat_le}
+use Rattle.std.proofs.Common.{◌≡◌, ◌≢◌, ◌+◌, ◌-◌, ◌||◌, ◌&&◌, ◌==◌, not, ℕ, zero, suc, List, [], ◌∷◌, ◌++◌, map, take, length, Option, None, Some, Bool, true, false, codes, refl, sym, ◌∙◌, ap, subst, arith}
+use Rattle.std.specs.Prelude.{nat_lt, nat_le, bytes_eq}
 use Rattle.std.specs.List.{list_all}
 use Rattle.std.proofs.lemmas.Bool.{and_parts}
-use Rattle.ballot_law.specs.Words.{lower}
-use Rattle.resp2.specs.Framing.Frame.{Frame, fault, bulk, frames_of, IsLine, HasLines, HaveLines}
+use Rattle.ballot_law.specs.Words.{lower, canonical_within}
+use Rattle.resp2.specs.Framing.Frame.{Frame, simple, fault, bulk, frames_of, IsLine, HasLines, HaveLines}
 use Rattle.client_commands.specs.declared.verbs.Verb.{Verb}
-use Rattle.client_commands.specs.declared.verbs.Verb.TheVariants.{Ping, Hello, Auth, SetName, SetInfo, GetName, Id, NoEvict, Reply, Commands, Docs, Count, Role, Publish, Info}
+use Rattle.client_commands.specs.declared.verbs.Verb.TheVariants.{Ping, Hello, Auth, SetName, SetInfo, GetName, Id, OfClients, Own, Kill, NoEvict, Reply, HelpOfClient, Commands, Docs, Count, HelpOfCommand, Role, Publish, Info, Sentinel}
+use Rattle.client_commands.specs.declared.subcommands.Sub.{Sub}
+use Rattle.client_commands.specs.declared.subcommands.Sub.TheVariants.{Help, PendingScripts, InfoCache, Config, SetOption, Monitor, Remove, Reset, Simulate, Debug}
 use Rattle.client_commands.specs.declared.hellos.Expects.{Expects}
 use Rattle.client_commands.specs.declared.hellos.Expects.TheVariants.{Start, User, Password, NewName}
 use Rattle.client_commands.specs.Refusals.{is_called, printed_byte, printed, wrong_arguments, unknown_subcommand, shown_words, unknown_command, no_option, wrong_password, no_password, no_auth, no_auth_yet, no_name, not_while_listening}
-use Rattle.resp2.specs.Commands.{command_of}
-use Rattle.client_commands.specs.declared.wordings.Wording.{Wording}
+use Rattle.resp2.specs.Commands.{redis_command_of}
 use Rattle.client_commands.specs.Courtesies as table
-use Rattle.client_commands.specs.Courtesies.{ClientInfo, Answer, left, widens, said, asks_masters, silent, Looked, known, refused, verb_name, Greeted, greeted, expected, taken, is_user, is_password, is_some, admits, is_stranger, lacks_password, greeted_by, is_client_name, asks_for_2, is_integer, after_first, first, or_else, hello_map, answered, asks_nothing, reply_to, courtesy, left_over, or_left}
+use Rattle.client_commands.specs.declared.choosing.ClientKind.{ClientKind}
+use Rattle.client_commands.specs.Choosing.{Wanted, Chosen, fits, unfit, anyone, kind_named, no_kind, no_number, with_spared, with_user, with_option, with_options, chosen_by}
+use Rattle.client_commands.specs.Subcommands.{sub_name, all_subs, sub_among, takes_count, not_at_runtime, no_trials, only_get}
+use Rattle.client_commands.specs.Helps.{sentinel_help, client_help, command_help}
+use Rattle.client_commands.specs.Courtesies.{ClientInfo, MonitoredMaster, Answer, left, said, asks_masters, silent, Looked, known, refused, verb_name, Greeted, greeted, expected, taken, is_user, is_password, is_some, admits, is_stranger, lacks_password, greeted_by, is_client_name, asks_for_2, is_integer, after_first, first, or_else, hello_map, answered, asks_nothing, reply_to, courtesy, left_over, or_left}
 use Rattle.client_commands.proofs.Silence.{asked_is, unasked_is}
 
 -- ---- lines
@@ -83,6 +88,18 @@ unknown_line name words =
 option_line : (word : List ℕ) → HasLines (no_option word)
 option_line word = around (codes "ERR Syntax error in HELLO option '") (printed (length word) word) (codes "'") refl (shown (take (length word) word)) (checked (codes "'") refl)
 
+sub_line : (sub : Sub) → IsLine (sub_name sub)
+sub_line Help = checked (codes "sentinel|help") refl
+sub_line PendingScripts = checked (codes "sentinel|pending-scripts") refl
+sub_line InfoCache = checked (codes "sentinel|info-cache") refl
+sub_line Config = checked (codes "sentinel|config") refl
+sub_line SetOption = checked (codes "sentinel|set") refl
+sub_line Monitor = checked (codes "sentinel|monitor") refl
+sub_line Remove = checked (codes "sentinel|remove") refl
+sub_line Reset = checked (codes "sentinel|reset") refl
+sub_line Simulate = checked (codes "sentinel|simulate-failure") refl
+sub_line Debug = checked (codes "sentinel|debug") refl
+
 verb_line : (verb : Verb) → IsLine (verb_name verb)
 verb_line Ping = checked (codes "ping") refl
 verb_line Hello = checked (codes "hello") refl
@@ -91,14 +108,20 @@ verb_line SetName = checked (codes "client|setname") refl
 verb_line SetInfo = checked (codes "client|setinfo") refl
 verb_line GetName = checked (codes "client|getname") refl
 verb_line Id = checked (codes "client|id") refl
+verb_line OfClients = checked (codes "client|list") refl
+verb_line Own = checked (codes "client|info") refl
+verb_line Kill = checked (codes "client|kill") refl
 verb_line NoEvict = checked (codes "client|no-evict") refl
 verb_line Reply = checked (codes "client|reply") refl
+verb_line HelpOfClient = checked (codes "client|help") refl
 verb_line Commands = checked (codes "command") refl
 verb_line Docs = checked (codes "command|docs") refl
 verb_line Count = checked (codes "command|count") refl
+verb_line HelpOfCommand = checked (codes "command|help") refl
 verb_line Role = checked (codes "role") refl
 verb_line Publish = checked (codes "publish") refl
 verb_line Info = checked (codes "info") refl
+verb_line (Sentinel sub) = sub_line sub
 
 listener_line : (verb : Verb) → HasLines (not_while_listening (verb_name verb))
 listener_line verb =
@@ -116,8 +139,16 @@ both : (test : Bool) (one two : Looked) → AreLines one → AreLines two → Ar
 both true one two h k = h
 both false one two h k = k
 
-taken_lines : (verb : Verb) (fits : Bool) (words : List (List ℕ)) → AreLines (taken verb fits words)
-taken_lines verb fits words = both fits _ _ tt (arguments_line (verb_name verb) (verb_line verb))
+taken_lines : (verb : Verb) (enough : Bool) (words : List (List ℕ)) → AreLines (taken verb enough words)
+taken_lines verb enough words = both enough _ _ tt (arguments_line (verb_name verb) (verb_line verb))
+
+clients_lines : (word : List ℕ) (words : List (List ℕ)) → AreLines (table.clients_named word words)
+clients_lines word words =
+    both (is_called (codes "list") word) _ _ tt
+    (both (is_called (codes "info") word) _ _ (taken_lines Own (length words == 0) words)
+    (both (is_called (codes "kill") word) _ _ (taken_lines Kill (nat_lt 0 (length words)) words)
+    (both (is_called (codes "help") word) _ _ (taken_lines HelpOfClient (length words == 0) words)
+    (subcommand_line (codes "CLIENT HELP.") word (checked (codes "CLIENT HELP.") refl)))))
 
 client_lines : (words : List (List ℕ)) → AreLines (table.client words)
 client_lines [] = arguments_line (codes "client") (checked (codes "client") refl)
@@ -127,21 +158,25 @@ client_lines (word ∷ words) =
     (both (is_called (codes "getname") word) _ _ (taken_lines GetName (length words == 0) words)
     (both (is_called (codes "id") word) _ _ (taken_lines Id (length words == 0) words)
     (both (is_called (codes "no-evict") word) _ _ (taken_lines NoEvict (length words == 1) words)
-    (both (is_called (codes "reply") word) _ _ (taken_lines Reply (length words == 1) words)
-    (subcommand_line (codes "CLIENT HELP.") word (checked (codes "CLIENT HELP.") refl)))))))
+    (both (is_called (codes "reply") word) _ _ (taken_lines Reply (length words == 1) words) (clients_lines word words))))))
 
 command_lines : (words : List (List ℕ)) → AreLines (table.command words)
 command_lines [] = tt
 command_lines (word ∷ words) =
     both (is_called (codes "docs") word) _ _ tt
     (both (is_called (codes "count") word) _ _ (taken_lines Count (length words == 0) words)
-    (subcommand_line (codes "COMMAND HELP.") word (checked (codes "COMMAND HELP.") refl)))
+    (both (is_called (codes "help") word) _ _ (taken_lines HelpOfCommand (length words == 0) words)
+    (subcommand_line (codes "COMMAND HELP.") word (checked (codes "COMMAND HELP.") refl))))
+
+sub_lines : (sub : Option Sub) (word : List ℕ) (words : List (List ℕ)) → AreLines (table.subcommand sub word words)
+sub_lines None word words = subcommand_line (codes "SENTINEL HELP.") word (checked (codes "SENTINEL HELP.") refl)
+sub_lines (Some sub) word words = taken_lines (Sentinel sub) (takes_count sub (length words)) words
 
 sentinel_lines : (miscounted : Bool) (words : List (List ℕ)) → AreLines (table.sentinel miscounted words)
 sentinel_lines miscounted [] = arguments_line (codes "sentinel") (checked (codes "sentinel") refl)
 sentinel_lines miscounted (word ∷ words) =
     both miscounted _ _ (arguments_line (codes "sentinel|" ++ map printed_byte (lower word)) (joined (codes "sentinel|") _ (checked (codes "sentinel|") refl) (shown (lower word))))
-    (subcommand_line (codes "SENTINEL HELP.") word (checked (codes "SENTINEL HELP.") refl))
+    (sub_lines (sub_among all_subs word) word words)
 
 other_lines : (miscounted : Bool) (name : List ℕ) (words : List (List ℕ)) → AreLines (table.other_named miscounted name words)
 other_lines miscounted name words =
@@ -264,9 +299,135 @@ publish_lines : (words : List (List ℕ)) → HasLines (table.publish words)
 publish_lines words =
     one_of (table.is_hello_channel (first words)) _ _ tt (checked (codes "ERR Only HELLO messages are accepted by Sentinel instances.") refl)
 
+-- ---- clients of the port
+
+quoted_line : (before word : List ℕ) → list_all is_plain_byte before ≡ true → IsLine (before ++ (printed (length word) word ++ codes "'"))
+quoted_line before word h = around before (printed (length word) word) (codes "'") h (shown (take (length word) word)) (checked (codes "'") refl)
+
+kind_lines : (kind : Option ClientKind) (word : List ℕ) (answer : ClientKind → Frame) → ((k : ClientKind) → HasLines (answer k))
+    → HasLines (elim kind as (λ _. Frame) [ Some k ↦ answer k | None ↦ no_kind word ])
+kind_lines None word answer each = quoted_line (codes "ERR Unknown client type '") word refl
+kind_lines (Some k) word answer each = each k
+
+list_lines : (asker : ClientInfo) (words : List (List ℕ)) → HasLines (table.client_list asker words)
+list_lines asker [] = tt
+list_lines asker (option ∷ []) = syntax_line
+list_lines asker (option ∷ value ∷ words) =
+    one_of (is_called (codes "id") option) _ _ (one_of (list_all is_integer (value ∷ words)) _ _ tt (checked (codes "ERR Invalid client ID") refl))
+    (one_of (is_called (codes "type") option && (length words == 0)) _ _ (kind_lines (kind_named value) value
+    (λ (k : ClientKind). bulk (table.lines_of asker (codes "client|list") (let w : Wanted = record (anyone false) { kind = Some k } in w))) (λ (k : ClientKind). tt))
+    syntax_line)
+
+abbrev AreChosenLines : Chosen → Type 0
+AreChosenLines (fits wanted) = Unit {0}
+AreChosenLines (unfit refusal) = HasLines refusal
+
+a_chosen : (test : Bool) (one two : Chosen) → AreChosenLines one → AreChosenLines two → AreChosenLines (elim test as (λ _. Chosen) [ true ↦ one | false ↦ two ])
+a_chosen true one two h k = h
+a_chosen false one two h k = k
+
+id_lines : (wanted : Wanted) (number : Option ℕ)
+    → AreChosenLines (elim number as (λ _. Chosen) [ Some n ↦ fits (let w : Wanted = record wanted { id = Some n } in w) | None ↦ unfit no_number ])
+id_lines wanted None = checked (codes "ERR client-id should be greater than 0") refl
+id_lines wanted (Some n) = tt
+
+of_kind_lines : (wanted : Wanted) (kind : Option ClientKind) (word : List ℕ)
+    → AreChosenLines (elim kind as (λ _. Chosen) [ Some k ↦ fits (let w : Wanted = record wanted { kind = Some k } in w) | None ↦ unfit (no_kind word) ])
+of_kind_lines wanted None word = quoted_line (codes "ERR Unknown client type '") word refl
+of_kind_lines wanted (Some k) word = tt
+
+spared_lines : (wanted : Wanted) (word : List ℕ) → AreChosenLines (with_spared wanted word)
+spared_lines wanted word =
+    a_chosen (is_called (codes "yes") word) _ _ tt (a_chosen (is_called (codes "no") word) _ _ tt syntax_line)
+
+user_lines : (wanted : Wanted) (word : List ℕ) → AreChosenLines (with_user wanted word)
+user_lines wanted word = a_chosen (bytes_eq word (codes "default")) _ _ tt (quoted_line (codes "ERR No such user '") word refl)
+
+one_option_lines : (wanted : Wanted) (option value : List ℕ) → AreChosenLines (with_option wanted option value)
+one_option_lines wanted option value =
+    a_chosen (is_called (codes "id") option) _ _ (id_lines wanted (canonical_within 1 9223372036854775807 value))
+    (a_chosen (is_called (codes "type") option) _ _ (of_kind_lines wanted (kind_named value) value)
+    (a_chosen (is_called (codes "addr") option) _ _ tt
+    (a_chosen (is_called (codes "laddr") option) _ _ tt
+    (a_chosen (is_called (codes "user") option) _ _ (user_lines wanted value)
+    (a_chosen (is_called (codes "skipme") option) _ _ (spared_lines wanted value) syntax_line)))))
+
+then_lines : (chosen : Chosen) (next : Wanted → Chosen) → AreChosenLines chosen → ((w : Wanted) → AreChosenLines (next w))
+    → AreChosenLines (elim chosen as (λ _. Chosen) [ fits w ↦ next w | unfit refusal ↦ unfit refusal ])
+then_lines (fits w) next h each = each w
+then_lines (unfit refusal) next h each = h
+
+options_lines : (wanted : Wanted) (words : List (List ℕ)) → AreChosenLines (with_options wanted words)
+options_lines wanted [] = tt
+options_lines wanted (option ∷ []) = syntax_line
+options_lines wanted (option ∷ value ∷ words) =
+    then_lines (with_option wanted option value) (λ (w : Wanted). with_options w words) (one_option_lines wanted option value) (λ (w : Wanted). options_lines w words)
+
+chosen_lines : (words : List (List ℕ)) → AreChosenLines (chosen_by words)
+chosen_lines [] = syntax_line
+chosen_lines (word ∷ []) = tt
+chosen_lines (option ∷ value ∷ words) = options_lines (anyone true) (option ∷ value ∷ words)
+
+count_lines : (by_address : Bool) (count : ℕ) → HasLines (table.killed_of by_address count)
+count_lines true count = one_of (count == 0) _ _ (checked (codes "ERR No such client") refl) ok_line
+count_lines false count = tt
+
+killed_lines : (asker : ClientInfo) (by_address : Bool) (chosen : Chosen) → AreChosenLines chosen → HasLines (table.kill_answer asker by_address chosen)
+killed_lines asker by_address (fits wanted) h = count_lines by_address (length (table.doomed asker (fits wanted)))
+killed_lines asker by_address (unfit refusal) h = h
+
+-- ---- subcommands of SENTINEL
+
+told_have_lines : (lines : List (List ℕ)) → list_all (λ (line : List ℕ). list_all is_plain_byte line) lines ≡ true → HaveLines (frames_of (map simple lines))
+told_have_lines [] h = tt
+told_have_lines (line ∷ lines) h =
+    let parts = and_parts (list_all is_plain_byte line) (list_all (λ (l : List ℕ). list_all is_plain_byte l) lines) h in
+    (checked line parts.0, told_have_lines lines parts.1)
+
+uncached_lines : (n : ℕ) → HaveLines (table.uncached n)
+uncached_lines zero = tt
+uncached_lines (suc n) = ((tt, (tt, tt)), uncached_lines n)
+
+cached_lines : (masters : List MonitoredMaster) → HaveLines (table.cached masters)
+cached_lines [] = tt
+cached_lines (master ∷ masters) = (tt, (uncached_lines master.nodes, cached_lines masters))
+
+only_line : HasLines only_get
+only_line = checked (codes "ERR Only SENTINEL CONFIG GET <option> / SET <option> <value> are supported.") refl
+
+runtime_line : (command : List ℕ) → list_all is_plain_byte command ≡ true → HasLines (not_at_runtime command)
+runtime_line command h =
+    around (codes "ERR SENTINEL ") command _ refl (checked command h)
+    (checked (codes " isn't supported: masters, nodes and settings are those of the files, and " ++ codes "docs/OPERATING.md says how these are changed") refl)
+
+trial_line : (command : List ℕ) → list_all is_plain_byte command ≡ true → HasLines (no_trials command)
+trial_line command h =
+    around (codes "ERR SENTINEL ") command _ refl (checked command h)
+    (checked (codes " isn't supported: docs/TRYING_IT.md says how failures are tried") refl)
+
+config_lines : (asker : ClientInfo) (words : List (List ℕ)) → HasLines (table.config asker words)
+config_lines asker [] = only_line
+config_lines asker (mode ∷ []) = only_line
+config_lines asker (mode ∷ pattern ∷ []) =
+    one_of (is_called (codes "get") mode) _ _ (names_lines (table.settings (lower pattern) asker.port.figures)) only_line
+config_lines asker (mode ∷ option ∷ value ∷ []) =
+    one_of (is_called (codes "set") mode) _ _ (runtime_line (codes "CONFIG SET") refl) only_line
+config_lines asker (mode ∷ option ∷ value ∷ next ∷ words) = only_line
+
+told_lines_of : (asker : ClientInfo) (sub : Sub) (words : List (List ℕ)) → HasLines (table.sentinel_told asker sub words)
+told_lines_of asker Help words = told_have_lines sentinel_help refl
+told_lines_of asker PendingScripts words = tt
+told_lines_of asker InfoCache words = cached_lines (table.named_masters words asker.masters)
+told_lines_of asker Config words = config_lines asker words
+told_lines_of asker SetOption words = runtime_line (codes "SET") refl
+told_lines_of asker Monitor words = runtime_line (codes "MONITOR") refl
+told_lines_of asker Remove words = runtime_line (codes "REMOVE") refl
+told_lines_of asker Reset words = runtime_line (codes "RESET") refl
+told_lines_of asker Simulate words = trial_line (codes "SIMULATE-FAILURE") refl
+told_lines_of asker Debug words = trial_line (codes "DEBUG") refl
+
 abbrev AreAnswerLines : Answer → Type 0
 AreAnswerLines left = Unit {0}
-AreAnswerLines widens = Unit {0}
 AreAnswerLines (said answer) = HasLines answer
 AreAnswerLines asks_masters = Unit {0}
 AreAnswerLines silent = ⊥
@@ -279,14 +440,20 @@ executed_lines asker SetName words = one_of (is_client_name (first words)) _ _ o
 executed_lines asker SetInfo words = ok_line
 executed_lines asker GetName words = get_name_lines asker.name
 executed_lines asker Id words = tt
+executed_lines asker OfClients words = list_lines asker words
+executed_lines asker Own words = tt
+executed_lines asker Kill words = killed_lines asker (length words == 1) (chosen_by words) (chosen_lines words)
 executed_lines asker NoEvict words = one_of (is_called (codes "on") (first words) || is_called (codes "off") (first words)) _ _ ok_line syntax_line
 executed_lines asker Reply words = one_of (is_called (codes "on") (first words)) _ _ ok_line syntax_line
+executed_lines asker HelpOfClient words = told_have_lines client_help refl
 executed_lines asker Commands words = tt
 executed_lines asker Docs words = tt
 executed_lines asker Count words = tt
+executed_lines asker HelpOfCommand words = told_have_lines command_help refl
 executed_lines asker Role words = (tt, (names_lines (table.names_of asker.masters), tt))
 executed_lines asker Publish words = publish_lines words
 executed_lines asker Info words = tt
+executed_lines asker (Sentinel sub) words = told_lines_of asker sub words
 
 listening_lines : (verb : Verb) (words : List (List ℕ)) → HasLines (table.while_listening verb words)
 listening_lines Ping words = (tt, (tt, tt))
@@ -296,14 +463,20 @@ listening_lines SetName words = listener_line SetName
 listening_lines SetInfo words = listener_line SetInfo
 listening_lines GetName words = listener_line GetName
 listening_lines Id words = listener_line Id
+listening_lines OfClients words = listener_line OfClients
+listening_lines Own words = listener_line Own
+listening_lines Kill words = listener_line Kill
 listening_lines NoEvict words = listener_line NoEvict
 listening_lines Reply words = listener_line Reply
+listening_lines HelpOfClient words = listener_line HelpOfClient
 listening_lines Commands words = listener_line Commands
 listening_lines Docs words = listener_line Docs
 listening_lines Count words = listener_line Count
+listening_lines HelpOfCommand words = listener_line HelpOfCommand
 listening_lines Role words = listener_line Role
 listening_lines Publish words = listener_line Publish
 listening_lines Info words = listener_line Info
+listening_lines (Sentinel sub) words = listener_line (Sentinel sub)
 
 one_answer : (test : Bool) (one two : Answer) → AreAnswerLines one → AreAnswerLines two → AreAnswerLines (elim test as (λ _. Answer) [ true ↦ one | false ↦ two ])
 one_answer true one two h k = h
@@ -327,20 +500,16 @@ in_lines asker miscounted [] = tt
 in_lines asker miscounted (name ∷ words) =
     maybe (table.names_channels (name ∷ words) || table.is_barred asker name) _ _ tt (looked_up_lines miscounted name words)
 
-own_lines : (own : Option Wording) → AreAnswerLines (table.own_answer own)
-own_lines None = tt
-own_lines (Some own) = tt
-
 or_left_lines : (asker : ClientInfo) (looked : Option Looked) → AreLinesOrNone looked → AreAnswerLines (or_left asker looked)
 or_left_lines asker None h = one_answer (is_stranger asker) _ _ no_auth_line tt
 or_left_lines asker (Some looked) h = answered_lines asker looked h
 
 reply_lines : (asker : ClientInfo) (value : Frame) → AreAnswerLines (reply_to asker value)
 reply_lines asker value =
-    one_answer (table.is_refused (command_of value)) _ _
-    (or_left_lines asker (table.looked_up_in asker (table.is_miscounted (command_of value)) (table.words_of value))
-    (in_lines asker (table.is_miscounted (command_of value)) (table.words_of value)))
-    (one_answer (is_stranger asker) _ _ no_auth_line (own_lines (table.wording_of (command_of value))))
+    one_answer (table.is_refused (redis_command_of value)) _ _
+    (or_left_lines asker (table.looked_up_in asker (table.is_miscounted (redis_command_of value)) (table.words_of value))
+    (in_lines asker (table.is_miscounted (redis_command_of value)) (table.words_of value)))
+    (one_answer (is_stranger asker) _ _ no_auth_line tt)
 
 said_by : (asker : ClientInfo) (value answer : Frame) (test : Bool) → asks_nothing value ≡ test → courtesy asker value ≡ said answer → HasLines answer
 said_by asker value answer true h is = absurd (let no = sym (unasked_is asker value h) ∙ is in cc)

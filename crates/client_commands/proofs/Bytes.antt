@@ -1,11 +1,11 @@
 -- The bytes of some answers.
-use Rattle.std.proofs.Common.{◌≡◌, ◌∙◌, ℕ, suc, List, [], ◌∷◌, ◌++◌, length, map, decimal, refl, sym, ap, arith, subst, append-nil, Result, Option, None, Some, Bool, true, false, true≢false}
+use Rattle.std.proofs.Common.{◌≡◌, ◌∙◌, ◌<◌, ◌-◌, ℕ, zero, suc, List, [], ◌∷◌, ◌++◌, length, map, decimal, refl, sym, ap, arith, subst, append-nil, Result, Option, None, Some, Bool, true, false, true≢false}
 use Rattle.std.proofs.lemmas.Fmt.{decimal_digit, decimal_step}
 use Rattle.std.specs.Prelude.{OnOk}
 use Rattle.resp2.specs.declared.framing.value.Value.{Value}
 use Rattle.resp2.specs.Framing.Frame.{Frame, bulk, items, no_frames, count, frames_of, frames_view, spelling, spellings, line_end}
 use Rattle.client_commands.specs.Refusals.{no_auth_yet}
-use Rattle.client_commands.specs.Courtesies.{ClientInfo, MonitoredMaster, names_of, or_else, is_some, lacks_password, refusal_text, greeting_of, hello_map, role, pong, first}
+use Rattle.client_commands.specs.Courtesies.{ClientInfo, MonitoredMaster, names_of, or_else, is_some, lacks_password, refusal_text, greeting_of, hello_map, role, pong, first, uncached}
 
 -- a text that was set to the bytes of an answer
 pub set_to : {X E : Type 0} (answer : Result X E) (text bytes wanted : List ℕ) → wanted ≡ bytes → OnOk answer (text ≡ bytes) → OnOk answer (text ≡ wanted)
@@ -92,3 +92,16 @@ pub greeting_bytes : (asker : ClientInfo) (admitted : Bool) (id : ℕ) → lacks
     → spelling (greeting_of asker admitted) ≡ spelling (hello_map id)
 greeting_bytes asker admitted id given same =
     ap (λ (t : Bool). spelling (elim t as (λ _. Frame) [ true ↦ no_auth_yet | false ↦ hello_map asker.id ])) given ∙ ap (λ (n : ℕ). spelling (hello_map n)) (sym same)
+
+-- nothing is kept of an INFO
+abbrev pub uncached_row : List ℕ
+uncached_row = 42 ∷ 50 ∷ 13 ∷ 10 ∷ 58 ∷ 48 ∷ 13 ∷ 10 ∷ 36 ∷ 45 ∷ 49 ∷ 13 ∷ 10 ∷ []
+
+pub uncached_none : (n : ℕ) → n ≡ 0 → spellings (uncached n) ≡ []
+uncached_none n h = rw (h) refl
+
+pub uncached_more : (n : ℕ) → 0 < n → spellings (uncached n) ≡ uncached_row ++ spellings (uncached (n - 1))
+uncached_more zero h = absurd (omega (arith, h))
+uncached_more (suc n) h =
+    let less : suc n - 1 ≡ n = omega arith in
+    rw (less, two, none) refl

@@ -1,12 +1,13 @@
 pub mod AnswerLines
 pub mod Bytes
 pub mod Held
+pub mod HelpBytes
 pub mod LineLemmas
 pub mod LineReader
 pub mod LineStreams
 pub mod Lookups
 pub mod OwnValues
+pub mod Parts
 pub mod Silence
 pub mod Strangers
-pub mod WideRows
-pub mod WordingLines
+pub mod SubBytes

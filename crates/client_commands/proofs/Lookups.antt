@@ -2,7 +2,7 @@
 use Rattle.std.proofs.Common.{◌≡◌, ℕ, List, Option, None, Some, refl, sym, ap}
 use Rattle.client_commands.specs.declared.verbs.Verb.{Verb}
 use Rattle.client_commands.specs.declared.courtesies.Courtesy.TheVariants.{Said}
-use Rattle.client_commands.specs.Courtesies.{ClientInfo, Looked, known, refused, found, text_after, answered, named, kind_of, text_of}
+use Rattle.client_commands.specs.Courtesies.{ClientInfo, Looked, known, refused, found, text_after, answered, named, admitted_by, killed_by, kind_of, text_of}
 
 pub known_is : (looked : Looked) (verb : Verb) (words : List (List ℕ)) → Some (verb, words) ≡ found looked → looked ≡ known verb words
 known_is (known v ws) verb words same =
@@ -20,3 +20,17 @@ refused_text asker before (refused refusal) same = refl
 pub refused_name : (asker : ClientInfo) (looked : Looked) → None ≡ found looked → named asker looked ≡ asker.name
 refused_name asker (known verb words) same = let never : None ≡ Some (verb, words) = same in absurd (cc)
 refused_name asker (refused refusal) same = refl
+
+pub refused_kills : (asker : ClientInfo) (looked : Looked) → None ≡ found looked → killed_by asker looked ≡ asker.port.killed
+refused_kills asker (known verb words) same = let never : None ≡ Some (verb, words) = same in absurd (cc)
+refused_kills asker (refused refusal) same = refl
+
+-- a command that is refused changes nothing of the connection
+pub refused_same : (asker : ClientInfo) (looked : Looked) → None ≡ found looked
+    → asker ≡ (let a : ClientInfo = record asker {
+      name = named asker looked;
+      admitted = admitted_by asker looked;
+      port = record asker.port { killed = killed_by asker looked };
+    } in a)
+refused_same asker (known verb words) same = let never : None ≡ Some (verb, words) = same in absurd (cc)
+refused_same asker (refused refusal) same = refl

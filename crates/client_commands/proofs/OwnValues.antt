@@ -1,16 +1,13 @@
 -- A value that the Sentinel's rules answer is left to them.
-use Rattle.std.proofs.Common.{◌≡◌, ◌∙◌, ◌⊎◌, inl, inr, Option, None, Some, Bool, true, false, Result, Ok, Err, refl, ap}
+use Rattle.std.proofs.Common.{◌≡◌, ◌∙◌, ◌⊎◌, inl, inr, Option, None, Some, Bool, true, false, Result, Ok, Err, refl, sym, ap}
 use Rattle.ballot_law.specs.declared.commands.Command.{Command}
-use Rattle.ballot_law.specs.declared.commands.Command.TheVariants.{Ping, IsMasterDownByAddr, GetMasterAddrByName, Masters, Master, Replicas, Sentinels, MyId, CkQuorum, FlushConfig, Subscribe}
-use Rattle.resp2.specs.Asked.{IsCommon}
 use Rattle.resp2.specs.declared.command.CommandFault.{CommandFault}
 use Rattle.resp2.specs.declared.command.CommandFault.TheVariants.{NotACommand, UnknownCommand, WrongArguments, BadAddress, BadEpoch, BadRunId, UnknownChannel}
-use Rattle.resp2.specs.Commands.{command_of}
+use Rattle.resp2.specs.Commands.{redis_command_of}
 use Rattle.resp2.specs.Framing.Frame.{Frame}
-use Rattle.client_commands.specs.declared.wordings.Wording.{Wording}
 use Rattle.client_commands.specs.Refusals.{no_auth}
 use Rattle.client_commands.proofs.Silence.{command_asks, asked_is}
-use Rattle.client_commands.specs.Courtesies.{ClientInfo, Answer, Looked, left, widens, said, asks_nothing, courtesy, asker_after, wording_of, own_answer, unless_stranger, or_left, or_same, or_admitted, is_stranger, is_refused, is_miscounted, looked_up_in, words_of}
+use Rattle.client_commands.specs.Courtesies.{ClientInfo, Answer, Looked, left, said, asks_nothing, reply_to, courtesy, asker_after, unless_stranger, or_left, or_same, or_admitted, or_killed, is_stranger, is_refused, is_miscounted, looked_up_in, words_of}
 
 -- what is left over of a value that was judged so
 abbrev over : ClientInfo → Result Command CommandFault → Frame → Option Looked
@@ -21,67 +18,46 @@ abbrev answer_at : ClientInfo → Result Command CommandFault → Frame → Answ
 answer_at asker asked value =
     elim (is_refused asked) as (λ _. Answer) [
       | true ↦ or_left asker (looked_up_in asker (is_miscounted asked) (words_of value))
-      | false ↦ unless_stranger asker (own_answer (wording_of asked))
+      | false ↦ unless_stranger asker left
     ]
 
 -- a client that gave the password, or needn't
 admitted_is : (asker : ClientInfo) (answer : Answer) → is_stranger asker ≡ false → unless_stranger asker answer ≡ answer
 admitted_is asker answer known = ap (λ (test : Bool). elim test as (λ _. Answer) [ true ↦ said no_auth | false ↦ answer ]) known
 
-pub own_is_left : (asker : ClientInfo) (value : Frame) (command : Command) → is_stranger asker ≡ false → command_of value ≡ Ok command
-    → courtesy asker value ≡ own_answer (wording_of (Ok command))
+pub own_is_left : (asker : ClientInfo) (value : Frame) (command : Command) → is_stranger asker ≡ false → redis_command_of value ≡ Ok command
+    → courtesy asker value ≡ left
 own_is_left asker value command known is =
     asked_is asker value (command_asks value command is)
-    ∙ ap (λ (asked : Result Command CommandFault). answer_at asker asked value) is ∙ admitted_is asker (own_answer (wording_of (Ok command))) known
+    ∙ ap (λ (asked : Result Command CommandFault). answer_at asker asked value) is ∙ admitted_is asker left known
 
-pub own_is_same : (asker : ClientInfo) (value : Frame) (command : Command) → command_of value ≡ Ok command → asker_after asker value ≡ asker
+pub own_is_same : (asker : ClientInfo) (value : Frame) (command : Command) → redis_command_of value ≡ Ok command → asker_after asker value ≡ asker
 own_is_same asker value command is =
     ap (λ (asked : Result Command CommandFault).
-    let a : ClientInfo = record asker { name = or_same asker (over asker asked value); admitted = or_admitted asker (over asker asked value) } in a) is
-
--- a command that comes nearly always is told in no other words
-common_wording : (command : Command) → IsCommon command → wording_of (Ok command) ≡ None
-common_wording Ping h = refl
-common_wording (GetMasterAddrByName name) h = refl
-common_wording (IsMasterDownByAddr addr epoch candidate) h = refl
-common_wording Masters h = elim h [ ]
-common_wording (Master name) h = elim h [ ]
-common_wording (Replicas name) h = elim h [ ]
-common_wording (Sentinels name) h = elim h [ ]
-common_wording MyId h = elim h [ ]
-common_wording (CkQuorum name) h = elim h [ ]
-common_wording FlushConfig h = elim h [ ]
-common_wording Subscribe h = elim h [ ]
-
--- so it is left as it is
-pub common_is_left : (asker : ClientInfo) (value : Frame) (command : Command) → is_stranger asker ≡ false → command_of value ≡ Ok command → IsCommon command
-    → courtesy asker value ≡ left
-common_is_left asker value command known is common = own_is_left asker value command known is ∙ ap own_answer (common_wording command common)
-
--- it is left, or its answer is told in other words
-left_or_widens : (asker : ClientInfo) (own : Option Wording) → is_stranger asker ≡ false
-    → (unless_stranger asker (own_answer own) ≡ left) ⊎ (unless_stranger asker (own_answer own) ≡ widens)
-left_or_widens asker None known = inl (admitted_is asker left known)
-left_or_widens asker (Some own) known = inr (admitted_is asker widens known)
+    let a : ClientInfo = record asker {
+      name = or_same asker (over asker asked value);
+      admitted = or_admitted asker (over asker asked value);
+      port = record asker.port { killed = or_killed asker (over asker asked value) };
+    } in a) is
 
 judged : (asker : ClientInfo) (value : Frame) (asked : Result Command CommandFault) → is_stranger asker ≡ false
-    → ((answer_at asker asked value ≡ left) ⊎ (answer_at asker asked value ≡ widens)) ⊎ ((asked ≡ Err UnknownCommand) ⊎ (asked ≡ Err WrongArguments))
-judged asker value (Ok command) known = inl (left_or_widens asker (wording_of (Ok command)) known)
-judged asker value (Err NotACommand) known = inl (inl (admitted_is asker left known))
+    → (answer_at asker asked value ≡ left) ⊎ ((asked ≡ Err UnknownCommand) ⊎ (asked ≡ Err WrongArguments))
+judged asker value (Ok command) known = inl (admitted_is asker left known)
+judged asker value (Err NotACommand) known = inl (admitted_is asker left known)
 judged asker value (Err UnknownCommand) known = inr (inl refl)
 judged asker value (Err WrongArguments) known = inr (inr refl)
-judged asker value (Err BadAddress) known = inl (inl (admitted_is asker left known))
-judged asker value (Err BadEpoch) known = inl (inl (admitted_is asker left known))
-judged asker value (Err BadRunId) known = inl (inl (admitted_is asker left known))
-judged asker value (Err UnknownChannel) known = inl (inl (admitted_is asker left known))
+judged asker value (Err BadAddress) known = inl (admitted_is asker left known)
+judged asker value (Err BadEpoch) known = inl (admitted_is asker left known)
+judged asker value (Err BadRunId) known = inl (admitted_is asker left known)
+judged asker value (Err UnknownChannel) known = inl (admitted_is asker left known)
 
 refused_by : (asker : ClientInfo) (value : Frame) (test : Bool) → asks_nothing value ≡ test → is_stranger asker ≡ false
     → (asks_nothing value ≡ true)
-    ⊎ (((courtesy asker value ≡ left) ⊎ (courtesy asker value ≡ widens)) ⊎ ((command_of value ≡ Err UnknownCommand) ⊎ (command_of value ≡ Err WrongArguments)))
+    ⊎ ((courtesy asker value ≡ left) ⊎ ((redis_command_of value ≡ Err UnknownCommand) ⊎ (redis_command_of value ≡ Err WrongArguments)))
 refused_by asker value true h known = inl h
-refused_by asker value false h known = inr (rw (asked_is asker value h) (judged asker value (command_of value) known))
+refused_by asker value false h known = inr (rw (asked_is asker value h) (judged asker value (redis_command_of value) known))
 
 pub refused_or_left : (asker : ClientInfo) (value : Frame) → is_stranger asker ≡ false
     → (asks_nothing value ≡ true)
-    ⊎ (((courtesy asker value ≡ left) ⊎ (courtesy asker value ≡ widens)) ⊎ ((command_of value ≡ Err UnknownCommand) ⊎ (command_of value ≡ Err WrongArguments)))
+    ⊎ ((courtesy asker value ≡ left) ⊎ ((redis_command_of value ≡ Err UnknownCommand) ⊎ (redis_command_of value ≡ Err WrongArguments)))
 refused_or_left asker value known = refused_by asker value (asks_nothing value) refl known

@@ -2,23 +2,12 @@
 use Rattle.std.proofs.Common.{◌≡◌, eqb, List, [], ◌∷◌, length, arith, Bool, true, false, Option, None, Ok, Err, refl, sym, ap, true≢false}
 use Rattle.std.proofs.lemmas.Bool.{ne_eqb}
 use Rattle.ballot_law.specs.declared.commands.Command.{Command}
-use Rattle.resp2.specs.declared.command.CommandFault.TheVariants.{NotACommand}
-use Rattle.resp2.specs.Commands.{command_of}
+use Rattle.resp2.specs.Commands.{redis_command_of}
 use Rattle.resp2.specs.Framing.Frame.{Frame, simple, fault, int, bulk, null_bulk, items, null_items, no_frames, frame, frames_view}
 use Rattle.resp2.specs.declared.framing.value.Value.{Value}
-use Rattle.client_commands.specs.Courtesies.{ClientInfo, Answer, Looked, silent, asks_nothing, reply_to, courtesy, asker_after, left_over, or_same, or_admitted}
+use Rattle.client_commands.specs.Courtesies.{ClientInfo, Answer, Looked, silent, asks_nothing, reply_to, courtesy, asker_after, left_over, or_same, or_admitted, or_killed}
 
--- it is no command
-nothing_asked : (value : Frame) → asks_nothing value ≡ true → command_of value ≡ Err NotACommand
-nothing_asked (items no_frames) h = refl
-nothing_asked null_items h = refl
-nothing_asked (items (frame f fs)) h = absurd (true≢false (sym h))
-nothing_asked (simple text) h = absurd (true≢false (sym h))
-nothing_asked (fault text) h = absurd (true≢false (sym h))
-nothing_asked (int n) h = absurd (true≢false (sym h))
-nothing_asked (bulk bytes) h = absurd (true≢false (sym h))
-nothing_asked null_bulk h = absurd (true≢false (sym h))
-
+-- nothing is left over of it
 nothing_left : (asker : ClientInfo) (value : Frame) → asks_nothing value ≡ true → left_over asker value ≡ None
 nothing_left asker (items no_frames) h = refl
 nothing_left asker null_items h = refl
@@ -32,10 +21,14 @@ nothing_left asker null_bulk h = absurd (true≢false (sym h))
 -- it changes nothing of the connection
 pub same_after_nothing : (asker : ClientInfo) (value : Frame) → asks_nothing value ≡ true → asker ≡ asker_after asker value
 same_after_nothing asker value h =
-    ap (λ (over : Option Looked). let a : ClientInfo = record asker { name = or_same asker over; admitted = or_admitted asker over } in a) (sym (nothing_left asker value h))
+    ap (λ (over : Option Looked). let a : ClientInfo = record asker {
+      name = or_same asker over;
+      admitted = or_admitted asker over;
+      port = record asker.port { killed = or_killed asker over };
+    } in a) (sym (nothing_left asker value h))
 
 -- a command asks for something, and so has its answer
-pub command_asks : (value : Frame) (command : Command) → command_of value ≡ Ok command → asks_nothing value ≡ false
+pub command_asks : (value : Frame) (command : Command) → redis_command_of value ≡ Ok command → asks_nothing value ≡ false
 command_asks (items no_frames) command is = absurd (cc)
 command_asks null_items command is = absurd (cc)
 command_asks (items (frame f fs)) command is = refl

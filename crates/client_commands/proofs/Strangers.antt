@@ -3,14 +3,16 @@ use Rattle.std.proofs.Common.{◌≡◌, ◌∙◌, ◌&&◌, ◌||◌, ◌==◌
 use Rattle.std.specs.Prelude.{nat_lt, nat_le}
 use Rattle.std.specs.List.{list_any}
 use Rattle.std.proofs.lemmas.Bool.{and_parts}
-use Rattle.resp2.specs.Commands.{command_of}
+use Rattle.resp2.specs.Commands.{redis_command_of}
 use Rattle.resp2.specs.Framing.Frame.{Frame}
 use Rattle.client_commands.specs.declared.verbs.Verb.{Verb}
-use Rattle.client_commands.specs.declared.verbs.Verb.TheVariants.{Ping, Hello, Auth, SetName, SetInfo, GetName, Id, NoEvict, Reply, Commands, Docs, Count, Role, Publish, Info}
+use Rattle.client_commands.specs.declared.verbs.Verb.TheVariants.{Ping, Hello, Auth, SetName, SetInfo, GetName, Id, OfClients, Own, Kill, NoEvict, Reply, HelpOfClient, Commands, Docs, Count, HelpOfCommand, Role, Publish, Info, Sentinel}
+use Rattle.client_commands.specs.declared.subcommands.Sub.{Sub}
 use Rattle.client_commands.specs.declared.hellos.Expects.{Expects}
 use Rattle.client_commands.specs.declared.hellos.Expects.TheVariants.{Start, User, Password, NewName}
 use Rattle.client_commands.specs.declared.courtesies.Courtesy.TheVariants.{Said}
 use Rattle.client_commands.specs.Refusals.{is_called, no_auth, no_option, wrong_password, no_name}
+use Rattle.client_commands.specs.Subcommands.{all_subs, sub_among, takes_count}
 use Rattle.client_commands.specs.Courtesies as table
 use Rattle.client_commands.specs.Courtesies.{ClientInfo, Answer, left, said, asks_masters, Looked, known, refused, Greeted, greeted, expected, is_user, is_password, is_client_name, is_some, asks_for_2, after_first, lacks_password, is_stranger, is_for_strangers, admits, hello_admitted, admitted_by, or_admitted, answered, or_left, left_over, courtesy, asker_after, kind_of, words_of}
 
@@ -34,13 +36,19 @@ told asker (known SetName words) h = one_kind asker.listens _ _ refl refl
 told asker (known SetInfo words) h = one_kind asker.listens _ _ refl refl
 told asker (known GetName words) h = one_kind asker.listens _ _ refl refl
 told asker (known Id words) h = one_kind asker.listens _ _ refl refl
+told asker (known OfClients words) h = one_kind asker.listens _ _ refl refl
+told asker (known Own words) h = one_kind asker.listens _ _ refl refl
+told asker (known Kill words) h = one_kind asker.listens _ _ refl refl
 told asker (known NoEvict words) h = one_kind asker.listens _ _ refl refl
 told asker (known Reply words) h = one_kind asker.listens _ _ refl refl
+told asker (known HelpOfClient words) h = one_kind asker.listens _ _ refl refl
 told asker (known Commands words) h = one_kind asker.listens _ _ refl refl
 told asker (known Docs words) h = one_kind asker.listens _ _ refl refl
 told asker (known Count words) h = one_kind asker.listens _ _ refl refl
+told asker (known HelpOfCommand words) h = one_kind asker.listens _ _ refl refl
 told asker (known Role words) h = one_kind asker.listens _ _ refl refl
 told asker (known Publish words) h = one_kind asker.listens _ _ refl refl
+told asker (known (Sentinel sub) words) h = one_kind asker.listens _ _ refl refl
 told asker (known Info words) h = absurd h
 
 pick : (test : Bool) (one two : Looked) → Tells one → Tells two → Tells (elim test as (λ _. Looked) [ true ↦ one | false ↦ two ])
@@ -80,9 +88,9 @@ told_in asker miscounted (name ∷ words) h =
 pub strangers_are_answered : (asker : ClientInfo) (value : Frame) → is_stranger asker ≡ true → kind_of (courtesy asker value) ≡ Said
 strangers_are_answered asker value h =
     one_kind (table.asks_nothing value) _ _ refl
-    (one_kind (table.is_refused (command_of value)) _ _
-    (told_in asker (table.is_miscounted (command_of value)) (words_of value) h)
-    (ap (λ (t : Bool). kind_of (elim t as (λ _. Answer) [ true ↦ said no_auth | false ↦ table.own_answer (table.wording_of (command_of value)) ])) h))
+    (one_kind (table.is_refused (redis_command_of value)) _ _
+    (told_in asker (table.is_miscounted (redis_command_of value)) (words_of value) h)
+    (ap (λ (t : Bool). kind_of (elim t as (λ _. Answer) [ true ↦ said no_auth | false ↦ table.left ])) h))
 
 -- ---- HELLO and AUTH have the words after the name
 
@@ -108,6 +116,13 @@ taken_keeps : (words : List (List ℕ)) (verb : Verb) (fits : Bool) (args : List
     → Keeps words (table.taken verb fits args)
 taken_keeps words verb fits args h = both words fits _ _ h tt
 
+clients_keep : (words : List (List ℕ)) (word : List ℕ) (args : List (List ℕ)) → Keeps words (table.clients_named word args)
+clients_keep words word args =
+    both words (is_called (codes "list") word) _ _ (other OfClients args words refl)
+    (both words (is_called (codes "info") word) _ _ (taken_keeps words Own (length args == 0) args (other Own args words refl))
+    (both words (is_called (codes "kill") word) _ _ (taken_keeps words Kill (nat_lt 0 (length args)) args (other Kill args words refl))
+    (both words (is_called (codes "help") word) _ _ (taken_keeps words HelpOfClient (length args == 0) args (other HelpOfClient args words refl)) tt)))
+
 client_keeps : (words args : List (List ℕ)) → Keeps words (table.client args)
 client_keeps words [] = tt
 client_keeps words (word ∷ args) =
@@ -116,17 +131,23 @@ client_keeps words (word ∷ args) =
     (both words (is_called (codes "getname") word) _ _ (taken_keeps words GetName (length args == 0) args (other GetName args words refl))
     (both words (is_called (codes "id") word) _ _ (taken_keeps words Id (length args == 0) args (other Id args words refl))
     (both words (is_called (codes "no-evict") word) _ _ (taken_keeps words NoEvict (length args == 1) args (other NoEvict args words refl))
-    (both words (is_called (codes "reply") word) _ _ (taken_keeps words Reply (length args == 1) args (other Reply args words refl)) tt)))))
+    (both words (is_called (codes "reply") word) _ _ (taken_keeps words Reply (length args == 1) args (other Reply args words refl)) (clients_keep words word args))))))
 
 command_keeps : (words args : List (List ℕ)) → Keeps words (table.command args)
 command_keeps words [] = other Commands [] words refl
 command_keeps words (word ∷ args) =
     both words (is_called (codes "docs") word) _ _ (other Docs args words refl)
-    (both words (is_called (codes "count") word) _ _ (taken_keeps words Count (length args == 0) args (other Count args words refl)) tt)
+    (both words (is_called (codes "count") word) _ _ (taken_keeps words Count (length args == 0) args (other Count args words refl))
+    (both words (is_called (codes "help") word) _ _ (taken_keeps words HelpOfCommand (length args == 0) args (other HelpOfCommand args words refl)) tt))
+
+sub_keeps : (words : List (List ℕ)) (sub : Option Sub) (word : List ℕ) (args : List (List ℕ)) → Keeps words (table.subcommand sub word args)
+sub_keeps words None word args = tt
+sub_keeps words (Some sub) word args =
+    taken_keeps words (Sentinel sub) (takes_count sub (length args)) args (other (Sentinel sub) args words refl)
 
 sentinel_keeps : (words : List (List ℕ)) (miscounted : Bool) (args : List (List ℕ)) → Keeps words (table.sentinel miscounted args)
 sentinel_keeps words miscounted [] = tt
-sentinel_keeps words miscounted (word ∷ args) = both words miscounted _ _ tt tt
+sentinel_keeps words miscounted (word ∷ args) = both words miscounted _ _ tt (sub_keeps words (sub_among all_subs word) word args)
 
 other_keeps : (miscounted : Bool) (name : List ℕ) (words : List (List ℕ)) → Keeps words (table.other_named miscounted name words)
 other_keeps miscounted name words =
@@ -248,14 +269,20 @@ known_needs asker SetName words h k = never asker.admitted h (else_case asker.li
 known_needs asker SetInfo words h k = never asker.admitted h (else_case asker.listens asker.admitted asker.admitted h k)
 known_needs asker GetName words h k = never asker.admitted h (else_case asker.listens asker.admitted asker.admitted h k)
 known_needs asker Id words h k = never asker.admitted h (else_case asker.listens asker.admitted asker.admitted h k)
+known_needs asker OfClients words h k = never asker.admitted h (else_case asker.listens asker.admitted asker.admitted h k)
+known_needs asker Own words h k = never asker.admitted h (else_case asker.listens asker.admitted asker.admitted h k)
+known_needs asker Kill words h k = never asker.admitted h (else_case asker.listens asker.admitted asker.admitted h k)
 known_needs asker NoEvict words h k = never asker.admitted h (else_case asker.listens asker.admitted asker.admitted h k)
 known_needs asker Reply words h k = never asker.admitted h (else_case asker.listens asker.admitted asker.admitted h k)
+known_needs asker HelpOfClient words h k = never asker.admitted h (else_case asker.listens asker.admitted asker.admitted h k)
 known_needs asker Commands words h k = never asker.admitted h (else_case asker.listens asker.admitted asker.admitted h k)
 known_needs asker Docs words h k = never asker.admitted h (else_case asker.listens asker.admitted asker.admitted h k)
 known_needs asker Count words h k = never asker.admitted h (else_case asker.listens asker.admitted asker.admitted h k)
+known_needs asker HelpOfCommand words h k = never asker.admitted h (else_case asker.listens asker.admitted asker.admitted h k)
 known_needs asker Role words h k = never asker.admitted h (else_case asker.listens asker.admitted asker.admitted h k)
 known_needs asker Publish words h k = never asker.admitted h (else_case asker.listens asker.admitted asker.admitted h k)
 known_needs asker Info words h k = never asker.admitted h (else_case asker.listens asker.admitted asker.admitted h k)
+known_needs asker (Sentinel sub) words h k = never asker.admitted h (else_case asker.listens asker.admitted asker.admitted h k)
 
 looked_needs : (asker : ClientInfo) (words : List (List ℕ)) (looked : Looked) → Keeps words looked → asker.admitted ≡ false → admitted_by asker looked ≡ true →
     Holds asker.password words
@@ -291,4 +318,4 @@ pub admitted_by_the_password : (asker : ClientInfo) (value : Frame) → is_stran
     → list_any (is_password asker.password) (words_of value) ≡ true
 admitted_by_the_password asker value h k =
     let given = lacking asker.password asker.admitted (or_admitted asker (left_over asker value)) h k in
-    over_needs asker (table.is_refused (command_of value)) (table.is_miscounted (command_of value)) (words_of value) given.0 given.1
+    over_needs asker (table.is_refused (redis_command_of value)) (table.is_miscounted (redis_command_of value)) (words_of value) given.0 given.1

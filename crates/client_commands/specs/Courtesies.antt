@@ -1,46 +1,52 @@
 -- What a port answers to the values that a Sentinel's rules call unknown, or refuse for their number of words.
-use Rattle.std.specs.Prelude.{ℕ, pos, Bool, true, false, not, ◌||◌, ◌&&◌, ◌==◌, nat_lt, nat_le, List, [], ◌∷◌, ◌++◌, map, length, bytes_eq, codes, Option, Some, None, Result, Ok, Err}
-use Rattle.std.specs.List.{list_all}
+use Rattle.std.specs.Prelude.{ℕ, zero, suc, pos, Bool, true, false, not, ◌||◌, ◌&&◌, ◌==◌, nat_lt, nat_le, List, [], ◌∷◌, ◌++◌, map, length, bytes_eq, codes, decimal, Option, Some, None, Result, Ok, Err}
+use Rattle.std.specs.List.{list_all, list_any}
 use Rattle.ballot_law.specs.declared.commands.Command.{Command}
 use Rattle.ballot_law.specs.declared.commands.Command.TheVariants.{Masters, Master, Replicas, Sentinels, CkQuorum}
-use Rattle.ballot_law.specs.Words.{lower, canonical_within}
+use Rattle.ballot_law.specs.Words.{lower, canonical_within, ip_text}
+use Rattle.pubsub.specs.Globs.{matches}
 use Rattle.resp2.specs.declared.command.CommandFault.{CommandFault}
 use Rattle.resp2.specs.declared.command.CommandFault.TheVariants.{UnknownCommand, WrongArguments}
-use Rattle.resp2.specs.Commands.{command_of, words}
-use Rattle.resp2.specs.Framing.Frame.{Frame, simple, int, bulk, null_bulk, items, null_items, no_frames, frames_of, spelling}
+use Rattle.resp2.specs.Commands.{redis_command_of, words}
+use Rattle.resp2.specs.Framing.Frame.{Frame, FrameList, simple, fault, int, bulk, null_bulk, items, null_items, no_frames, frame, frames_of, spelling}
 use Rattle.client_commands.specs.declared.verbs.Verb.{Verb}
-use Rattle.client_commands.specs.declared.verbs.Verb.TheVariants.{Ping, Hello, Auth, SetName, SetInfo, GetName, Id, NoEvict, Reply, Commands, Docs, Count, Role, Publish, Info}
+use Rattle.client_commands.specs.declared.verbs.Verb.TheVariants.{Ping, Hello, Auth, SetName, SetInfo, GetName, Id, OfClients, Own, Kill, NoEvict, Reply, HelpOfClient, Commands, Docs, Count, HelpOfCommand, Role, Publish, Info, Sentinel}
+use Rattle.client_commands.specs.declared.subcommands.Sub.{Sub}
+use Rattle.client_commands.specs.declared.subcommands.Sub.TheVariants.{Help, PendingScripts, InfoCache, Config, SetOption, Monitor, Remove, Reset, Simulate, Debug}
 use Rattle.client_commands.specs.declared.hellos.Expects.{Expects}
 use Rattle.client_commands.specs.declared.hellos.Expects.TheVariants.{Start, User, Password, NewName}
-use Rattle.client_commands.specs.declared.wordings.Wording.{Wording}
-use Rattle.client_commands.specs.declared.wordings.Wording.TheVariants.{Rows, Quorum}
-use Rattle.client_commands.specs.declared.tables.Table.TheVariants.{OneMaster, AllMasters, OfReplicas, OfSentinels}
 use Rattle.client_commands.specs.declared.courtesies.Courtesy.{Courtesy}
-use Rattle.client_commands.specs.declared.courtesies.Courtesy.TheVariants.{Left, Widens, Said, AsksMasters}
+use Rattle.client_commands.specs.declared.courtesies.Courtesy.TheVariants.{Left, Said, AsksMasters}
+use Rattle.client_commands.specs.declared.port_facts.Figures.{Figures}
+use Rattle.client_commands.specs.Ports.{PortFacts}
+use Rattle.client_commands.specs.Choosing.{Wanted, Chosen, fits, unfit, anyone, kind_named, no_kind, chosen_by, places_of}
+use Rattle.client_commands.specs.ClientLines.{client_lines}
+use Rattle.client_commands.specs.Subcommands.{sub_name, all_subs, sub_among, takes_count, not_at_runtime, no_trials, only_get}
+use Rattle.client_commands.specs.Helps.{told_lines, sentinel_help, client_help, command_help}
 use Rattle.client_commands.specs.Refusals.{is_called, printed_byte, wrong_arguments, unknown_subcommand, unknown_command, syntax_error, wrong_password, no_password, no_auth, no_auth_yet, no_name, no_such_protocol, no_protocol, no_option, no_hello, not_while_listening}
 
--- a master that a Sentinel watches
+-- a master that a Sentinel watches, and how many data nodes it has in all
 pub record MonitoredMaster : Type 0 where
   pub name : List ℕ
-  pub quorum : ℕ
+  pub nodes : ℕ
 
--- what is known of a connection: its number, the name that its client gave it, whether it listens to notes, the Sentinel's masters, how many Sentinels watch them, the
--- password that is wanted of its client, where one is, and whether the client gave it; and the Sentinel's current epoch as it was last told, where that was
+-- what is known of a connection: its number, the name that its client gave it, whether it listens to notes, the Sentinel's masters, the
+-- password that is wanted of its client, where one is, and whether the client gave it; the Sentinel's current epoch as it was last told, where that was; and what its
+-- port knows
 pub record ClientInfo : Type 0 where
   pub id : ℕ
   pub name : List ℕ
   pub listens : Bool
   pub masters : List MonitoredMaster
-  pub sentinels : ℕ
   pub password : Option (List ℕ)
   pub admitted : Bool
   pub current : Option ℕ
+  pub port : PortFacts
 
--- what becomes of a value: the Sentinel's rules answer it, the answer that they give is told in other words, it is answered by this value, or by what is told of the
+-- what becomes of a value: the Sentinel's rules answer it, it is answered by this value, or by what is told of the
 -- Sentinel's masters, or it has no answer
 pub data Answer : Type 0 where
   left : Answer
-  widens : Answer
   said : Frame → Answer
   asks_masters : Answer
   silent : Answer
@@ -56,14 +62,20 @@ verb_name SetName = codes "client|setname"
 verb_name SetInfo = codes "client|setinfo"
 verb_name GetName = codes "client|getname"
 verb_name Id = codes "client|id"
+verb_name OfClients = codes "client|list"
+verb_name Own = codes "client|info"
+verb_name Kill = codes "client|kill"
 verb_name NoEvict = codes "client|no-evict"
 verb_name Reply = codes "client|reply"
+verb_name HelpOfClient = codes "client|help"
 verb_name Commands = codes "command"
 verb_name Docs = codes "command|docs"
 verb_name Count = codes "command|count"
+verb_name HelpOfCommand = codes "command|help"
 verb_name Role = codes "role"
 verb_name Publish = codes "publish"
 verb_name Info = codes "info"
+verb_name (Sentinel sub) = sub_name sub
 
 -- a command with the words after its name, or why there is none
 pub data Looked : Type 0 where
@@ -82,7 +94,24 @@ text_after before (refused refusal) = spelling refusal
 
 -- the command, where it has as many words as it takes
 abbrev pub taken : Verb → Bool → List (List ℕ) → Looked
-taken verb fits words = elim fits [ true ↦ known verb words | false ↦ refused (wrong_arguments (verb_name verb)) ]
+taken verb enough words = elim enough [ true ↦ known verb words | false ↦ refused (wrong_arguments (verb_name verb)) ]
+
+-- those about the clients of a port
+abbrev pub clients_named : List ℕ → List (List ℕ) → Looked
+clients_named word words =
+    elim (is_called (codes "list") word) [
+      | true ↦ known OfClients words
+      | false ↦ elim (is_called (codes "info") word) [
+        | true ↦ taken Own (length words == 0) words
+        | false ↦ elim (is_called (codes "kill") word) [
+          | true ↦ taken Kill (nat_lt 0 (length words)) words
+          | false ↦ elim (is_called (codes "help") word) [
+            | true ↦ taken HelpOfClient (length words == 0) words
+            | false ↦ refused (unknown_subcommand (codes "CLIENT HELP.") word)
+          ]
+        ]
+      ]
+    ]
 
 abbrev pub client_named : List ℕ → List (List ℕ) → Looked
 client_named word words =
@@ -98,7 +127,7 @@ client_named word words =
               | true ↦ taken NoEvict (length words == 1) words
               | false ↦ elim (is_called (codes "reply") word) [
                 | true ↦ taken Reply (length words == 1) words
-                | false ↦ refused (unknown_subcommand (codes "CLIENT HELP.") word)
+                | false ↦ clients_named word words
               ]
             ]
           ]
@@ -117,17 +146,25 @@ command (word ∷ words) =
       | true ↦ known Docs words
       | false ↦ elim (is_called (codes "count") word) [
         | true ↦ taken Count (length words == 0) words
-        | false ↦ refused (unknown_subcommand (codes "COMMAND HELP.") word)
+        | false ↦ elim (is_called (codes "help") word) [
+          | true ↦ taken HelpOfCommand (length words == 0) words
+          | false ↦ refused (unknown_subcommand (codes "COMMAND HELP.") word)
+        ]
       ]
     ]
 
--- a subcommand of the Sentinel's rules with another number of words, or none of them
+-- a subcommand that the Sentinel's rules don't know
+abbrev pub subcommand : Option Sub → List ℕ → List (List ℕ) → Looked
+subcommand None word words = refused (unknown_subcommand (codes "SENTINEL HELP.") word)
+subcommand (Some sub) word words = taken (Sentinel sub) (takes_count sub (length words)) words
+
+-- a subcommand of the Sentinel's rules with another number of words, or one that they don't know
 abbrev pub sentinel : (miscounted : Bool) → List (List ℕ) → Looked
 sentinel miscounted [] = refused (wrong_arguments (codes "sentinel"))
 sentinel miscounted (word ∷ words) =
     elim miscounted [
       | true ↦ refused (wrong_arguments (codes "sentinel|" ++ map printed_byte (lower word)))
-      | false ↦ refused (unknown_subcommand (codes "SENTINEL HELP.") word)
+      | false ↦ subcommand (sub_among all_subs word) word words
     ]
 
 -- a command that is none of those of a connection
@@ -332,6 +369,118 @@ abbrev pub get_name : List ℕ → Frame
 get_name [] = null_bulk
 get_name (b ∷ bs) = bulk (b ∷ bs)
 
+-- ---- clients of the port
+
+-- the text of the clients that are wanted, by this command
+abbrev pub lines_of : ClientInfo → (last : List ℕ) → Wanted → List ℕ
+lines_of asker last wanted = client_lines asker.id asker.name last asker.port wanted asker.port.clients
+
+abbrev pub own_line : ClientInfo → Frame
+own_line asker = bulk (lines_of asker (codes "client|info") (record (anyone false) { id = Some asker.id }))
+
+-- the line of the client with the number that the word is, where there is one
+abbrev pub numbered_line : ClientInfo → List ℕ → List ℕ
+numbered_line asker word =
+    elim (canonical_within 1 9223372036854775807 word) [ Some number ↦ lines_of asker (codes "client|list") (record (anyone false) { id = Some number }) | None ↦ [] ]
+
+abbrev pub numbered_lines : ClientInfo → List (List ℕ) → List ℕ
+numbered_lines asker [] = []
+numbered_lines asker (word ∷ words) = numbered_line asker word ++ numbered_lines asker words
+
+abbrev pub listed_by_numbers : ClientInfo → List (List ℕ) → Frame
+listed_by_numbers asker words =
+    elim (list_all is_integer words) [ true ↦ bulk (numbered_lines asker words) | false ↦ fault (codes "ERR Invalid client ID") ]
+
+abbrev pub listed_by_kind : ClientInfo → List ℕ → Frame
+listed_by_kind asker word =
+    elim (kind_named word) [ Some kind ↦ bulk (lines_of asker (codes "client|list") (record (anyone false) { kind = Some kind })) | None ↦ no_kind word ]
+
+-- an option with the words after it, of which there is one at least
+abbrev pub listed_by : ClientInfo → (option value : List ℕ) → List (List ℕ) → Frame
+listed_by asker option value words =
+    elim (is_called (codes "id") option) [
+      | true ↦ listed_by_numbers asker (value ∷ words)
+      | false ↦ elim (is_called (codes "type") option && (length words == 0)) [ true ↦ listed_by_kind asker value | false ↦ syntax_error ]
+    ]
+
+abbrev pub client_list : ClientInfo → List (List ℕ) → Frame
+client_list asker [] = bulk (lines_of asker (codes "client|list") (anyone false))
+client_list asker (option ∷ []) = syntax_error
+client_list asker (option ∷ value ∷ words) = listed_by asker option value words
+
+-- the places of the clients that are chosen; none where the words choose none
+abbrev pub doomed : ClientInfo → Chosen → List ℕ
+doomed asker (fits wanted) = places_of asker.id asker.port.killed wanted asker.port.clients
+doomed asker (unfit refusal) = []
+
+-- by an address there is a client or none, by options as many as there are
+abbrev pub killed_of : (by_address : Bool) → (count : ℕ) → Frame
+killed_of true count = elim (count == 0) [ true ↦ fault (codes "ERR No such client") | false ↦ ok ]
+killed_of false count = int (pos count)
+
+abbrev pub kill_answer : ClientInfo → (by_address : Bool) → Chosen → Frame
+kill_answer asker by_address (fits wanted) = killed_of by_address (length (doomed asker (fits wanted)))
+kill_answer asker by_address (unfit refusal) = refusal
+
+abbrev pub kill : ClientInfo → List (List ℕ) → Frame
+kill asker words = kill_answer asker (length words == 1) (chosen_by words)
+
+-- ---- subcommands of SENTINEL
+
+-- nothing is kept of an INFO
+abbrev pub uncached : ℕ → FrameList
+uncached zero = no_frames
+uncached (suc n) = frame (items (frames_of (int (pos 0) ∷ null_bulk ∷ []))) (uncached n)
+
+-- the masters that a word names
+abbrev pub named_masters : List (List ℕ) → List MonitoredMaster → List MonitoredMaster
+named_masters words [] = []
+named_masters words (master ∷ masters) =
+    elim (list_any (bytes_eq master.name) words) as (λ _. List MonitoredMaster) [
+      | true ↦ master ∷ named_masters words masters
+      | false ↦ named_masters words masters
+    ]
+
+-- of each its name, and what is kept of its data nodes
+abbrev pub cached : List MonitoredMaster → FrameList
+cached [] = no_frames
+cached (master ∷ masters) = frame (bulk master.name) (frame (items (uncached master.nodes)) (cached masters))
+
+-- a setting and its value, where the pattern matches its name
+abbrev pub setting : (pattern name value : List ℕ) → List (List ℕ)
+setting pattern name value = elim (matches pattern name) [ true ↦ name ∷ value ∷ [] | false ↦ [] ]
+
+-- the settings of all Sentinels that redis-sentinel tells: no host is told by its name, and no password is shown
+unfoldable pub settings : (pattern : List ℕ) → Figures → List (List ℕ)
+settings pattern figures =
+    setting pattern (codes "resolve-hostnames") (codes "no")
+    ++ (setting pattern (codes "announce-hostnames") (codes "no")
+    ++ (setting pattern (codes "announce-ip") (ip_text figures.address.ip)
+    ++ (setting pattern (codes "announce-port") (decimal figures.address.port)
+    ++ (setting pattern (codes "sentinel-user") [] ++ setting pattern (codes "sentinel-pass") []))))
+
+abbrev pub config_get : ClientInfo → (pattern : List ℕ) → Frame
+config_get asker pattern = items (frames_of (map bulk (settings (lower pattern) asker.port.figures)))
+
+abbrev pub config : ClientInfo → List (List ℕ) → Frame
+config asker (mode ∷ pattern ∷ []) = elim (is_called (codes "get") mode) [ true ↦ config_get asker pattern | false ↦ only_get ]
+config asker (mode ∷ option ∷ value ∷ []) = elim (is_called (codes "set") mode) [ true ↦ not_at_runtime (codes "CONFIG SET") | false ↦ only_get ]
+config asker words = only_get
+
+abbrev pub sentinel_told : ClientInfo → Sub → List (List ℕ) → Frame
+sentinel_told asker Help words = told_lines sentinel_help
+sentinel_told asker PendingScripts words = items no_frames
+sentinel_told asker InfoCache words = items (cached (named_masters words asker.masters))
+sentinel_told asker Config words = config asker words
+sentinel_told asker SetOption words = not_at_runtime (codes "SET")
+sentinel_told asker Monitor words = not_at_runtime (codes "MONITOR")
+sentinel_told asker Remove words = not_at_runtime (codes "REMOVE")
+sentinel_told asker Reset words = not_at_runtime (codes "RESET")
+sentinel_told asker Simulate words = no_trials (codes "SIMULATE-FAILURE")
+sentinel_told asker Debug words = no_trials (codes "DEBUG")
+
+-- ---- CLIENT, ROLE, PUBLISH
+
 abbrev pub no_evict : List (List ℕ) → Frame
 no_evict words = elim (is_called (codes "on") (first words) || is_called (codes "off") (first words)) [ true ↦ ok | false ↦ syntax_error ]
 
@@ -354,7 +503,7 @@ is_hello_channel word = bytes_eq word (codes "__sentinel__:hello")
 abbrev pub publish : List (List ℕ) → Frame
 publish words = elim (is_hello_channel (first words)) [ true ↦ int (pos 1) | false ↦ no_hello ]
 
--- the answer to a command of a connection that doesn't listen; no command is described
+-- the answer to a command of a connection that doesn't listen; of the commands their number is told, and none is described
 abbrev pub executed : ClientInfo → Verb → List (List ℕ) → Answer
 executed asker Ping words = said (bulk (first words))
 executed asker Hello words = said (hello asker words)
@@ -363,14 +512,20 @@ executed asker SetName words = said (set_name words)
 executed asker SetInfo words = said ok
 executed asker GetName words = said (get_name asker.name)
 executed asker Id words = said (int (pos asker.id))
+executed asker OfClients words = said (client_list asker words)
+executed asker Own words = said (own_line asker)
+executed asker Kill words = said (kill asker words)
 executed asker NoEvict words = said (no_evict words)
 executed asker Reply words = said (reply words)
+executed asker HelpOfClient words = said (told_lines client_help)
 executed asker Commands words = said (items no_frames)
 executed asker Docs words = said (items no_frames)
-executed asker Count words = said (int (pos 0))
+executed asker Count words = said (int (pos 13))
+executed asker HelpOfCommand words = said (told_lines command_help)
 executed asker Role words = said (role (names_of asker.masters))
 executed asker Publish words = said (publish words)
 executed asker Info words = asks_masters
+executed asker (Sentinel sub) words = said (sentinel_told asker sub words)
 
 -- the answer to PING of a connection that listens
 abbrev pub pong : List (List ℕ) → Frame
@@ -392,6 +547,11 @@ abbrev pub admitted_after : ClientInfo → Verb → List (List ℕ) → Bool
 admitted_after asker Auth words = asker.admitted || admits asker.password words
 admitted_after asker Hello words = hello_admitted asker words
 admitted_after asker verb words = asker.admitted
+
+-- the clients that are to be closed after it
+abbrev pub killed_after : ClientInfo → Verb → List (List ℕ) → List ℕ
+killed_after asker Kill words = asker.port.killed ++ doomed asker (chosen_by words)
+killed_after asker verb words = asker.port.killed
 
 -- ---- the answer to a value
 
@@ -427,6 +587,10 @@ abbrev pub admitted_by : ClientInfo → Looked → Bool
 admitted_by asker (refused refusal) = asker.admitted
 admitted_by asker (known verb words) = elim asker.listens [ true ↦ asker.admitted | false ↦ admitted_after asker verb words ]
 
+abbrev pub killed_by : ClientInfo → Looked → List ℕ
+killed_by asker (refused refusal) = asker.port.killed
+killed_by asker (known verb words) = elim asker.listens [ true ↦ asker.port.killed | false ↦ killed_after asker verb words ]
+
 abbrev pub looked_up_in : ClientInfo → (miscounted : Bool) → List (List ℕ) → Option Looked
 looked_up_in asker miscounted [] = None
 looked_up_in asker miscounted (name ∷ words) =
@@ -435,21 +599,7 @@ looked_up_in asker miscounted (name ∷ words) =
 -- the command that the rules of the Sentinel leave to the courtesies, where they do
 abbrev pub left_over : ClientInfo → Frame → Option Looked
 left_over asker value =
-    elim (is_refused (command_of value)) [ true ↦ looked_up_in asker (is_miscounted (command_of value)) (words_of value) | false ↦ None ]
-
--- the answers of the Sentinel's rules that are told in other words
-abbrev pub wording_of : Result Command CommandFault → Option Wording
-wording_of (Ok (Master name)) = Some (Rows OneMaster)
-wording_of (Ok Masters) = Some (Rows AllMasters)
-wording_of (Ok (Replicas name)) = Some (Rows OfReplicas)
-wording_of (Ok (Sentinels name)) = Some (Rows OfSentinels)
-wording_of (Ok (CkQuorum name)) = Some (Quorum name)
-wording_of asked = None
-
--- what becomes of a value that the rules answer
-abbrev pub own_answer : Option Wording → Answer
-own_answer None = left
-own_answer (Some wording) = widens
+    elim (is_refused (redis_command_of value)) [ true ↦ looked_up_in asker (is_miscounted (redis_command_of value)) (words_of value) | false ↦ None ]
 
 abbrev pub unless_stranger : ClientInfo → Answer → Answer
 unless_stranger asker answer = elim (is_stranger asker) [ true ↦ said no_auth | false ↦ answer ]
@@ -466,6 +616,10 @@ abbrev pub or_admitted : ClientInfo → Option Looked → Bool
 or_admitted asker None = asker.admitted
 or_admitted asker (Some looked) = admitted_by asker looked
 
+abbrev pub or_killed : ClientInfo → Option Looked → List ℕ
+or_killed asker None = asker.port.killed
+or_killed asker (Some looked) = killed_by asker looked
+
 -- an array without items asks for nothing
 abbrev pub asks_nothing : Frame → Bool
 asks_nothing (items no_frames) = true
@@ -475,9 +629,9 @@ asks_nothing value = false
 -- the answer to a value that asks for something
 abbrev pub reply_to : ClientInfo → Frame → Answer
 reply_to asker value =
-    elim (is_refused (command_of value)) [
-      | true ↦ or_left asker (looked_up_in asker (is_miscounted (command_of value)) (words_of value))
-      | false ↦ unless_stranger asker (own_answer (wording_of (command_of value)))
+    elim (is_refused (redis_command_of value)) [
+      | true ↦ or_left asker (looked_up_in asker (is_miscounted (redis_command_of value)) (words_of value))
+      | false ↦ unless_stranger asker left
     ]
 
 -- the answer to a value of a connection
@@ -486,13 +640,17 @@ courtesy asker value = elim (asks_nothing value) as (λ _. Answer) [ true ↦ si
 
 -- what is known of the connection after it
 abbrev pub asker_after : ClientInfo → Frame → ClientInfo
-asker_after asker value = record asker { name = or_same asker (left_over asker value); admitted = or_admitted asker (left_over asker value) }
+asker_after asker value =
+    record asker {
+      name = or_same asker (left_over asker value);
+      admitted = or_admitted asker (left_over asker value);
+      port = record asker.port { killed = or_killed asker (left_over asker value) };
+    }
 
 -- ---- an answer as it is handed out
 
 abbrev pub kind_of : Answer → Courtesy
 kind_of left = Left
-kind_of widens = Widens
 kind_of (said answer) = Said
 kind_of asks_masters = AsksMasters
 kind_of silent = Said
@@ -500,7 +658,6 @@ kind_of silent = Said
 -- its bytes on the wire, where it is known
 abbrev pub text_of : Answer → List ℕ
 text_of left = []
-text_of widens = []
 text_of (said answer) = spelling answer
 text_of asks_masters = []
 text_of silent = []

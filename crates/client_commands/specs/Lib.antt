@@ -1,8 +1,10 @@
 pub mod Refusals
+pub mod Ports
+pub mod Choosing
+pub mod ClientLines
+pub mod Subcommands
+pub mod Helps
 pub mod Courtesies
 pub mod Infos
-pub mod Widening
-pub mod Quorums
-pub mod Wordings
 pub mod Lines
 pub mod Attendants

@@ -2,7 +2,7 @@
 use Rattle.std.specs.Prelude.{ℕ, ◌+◌, ◌-◌, Bool, true, false, ◌||◌, ◌==◌, nat_lt, List, [], ◌∷◌, ◌++◌, map, length, take, codes}
 use Rattle.ballot_law.specs.Words.{lower}
 use Rattle.resp2.specs.Commands as commands
-use Rattle.resp2.specs.Framing.Frame.{Frame, fault}
+use Rattle.resp2.specs.Framing.Frame.{Frame, fault, line_end}
 
 -- the word is this name, whatever the case of its letters
 abbrev pub is_called : List ℕ → List ℕ → Bool
@@ -76,3 +76,7 @@ no_auth_yet =
 abbrev pub not_while_listening : List ℕ → Frame
 not_while_listening name =
     fault (codes "ERR Can't execute '" ++ (name ++ codes "': only (P|S)SUBSCRIBE / (P|S)UNSUBSCRIBE / PING / QUIT / RESET are allowed in this context"))
+
+-- how a line ends whose last word is in quotes
+abbrev pub quote_end : List ℕ
+quote_end = codes "'" ++ line_end

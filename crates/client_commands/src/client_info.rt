@@ -1,19 +1,21 @@
 //! What is known of a connection.
 
-ghost use Rattle.std.specs.Prelude.{◌≡◌, Some, false};
+ghost use Rattle.std.specs.Prelude.{◌≡◌, ◌++◌, Some, false, OnOk, OnErr};
 ghost use Rattle.client_commands.specs.Courtesies.{is_some, lacks_password, is_stranger, is_password};
 
 use crate::passwords::is_same;
-use ballot_law::{Name, Text};
+use crate::port_facts::PortFacts;
+use ballot_law::{Name, NoMemory, Text};
 use std::marker::Model;
+use std::mem;
 
 /// A master that a Sentinel watches.
 #[derive(Drop)]
 pub struct MonitoredMaster {
     /// Its name.
     pub name: Name,
-    /// How many Sentinels have to call it down before a failover.
-    pub quorum: u32,
+    /// How many data nodes it has, itself too.
+    pub nodes: usize,
 }
 
 impl Model for MonitoredMaster {
@@ -21,10 +23,20 @@ impl Model for MonitoredMaster {
 
     ghost Value = { MonitoredMasterModel };
 
-    ghost view = { λ master. record { name = master.name; quorum = master.quorum } };
+    ghost view = { λ master. record { name = master.name; nodes = master.nodes } };
 }
 
 impl MonitoredMaster {
+    /// The same.
+    pub(crate) fn copy(&self) -> MonitoredMaster
+        ensures { result ≡ self.now }
+    {
+        MonitoredMaster {
+            name: self.name,
+            nodes: self.nodes,
+        }
+    }
+
     /// The name.
     pub(crate) fn name(&self) -> &[u8]
         ensures { result.now ≡ self.now.name }
@@ -32,11 +44,11 @@ impl MonitoredMaster {
         self.name.as_slice()
     }
 
-    /// The quorum.
-    pub(crate) fn quorum(&self) -> u32
-        ensures { result ≡ self.now.quorum }
+    /// How many data nodes it has.
+    pub(crate) fn nodes(&self) -> usize
+        ensures { result ≡ self.now.nodes }
     {
-        self.quorum
+        self.nodes
     }
 }
 
@@ -51,14 +63,14 @@ pub struct ClientInfo {
     pub listens: bool,
     /// The Sentinel's masters, in the roster's order.
     pub masters: Vec<MonitoredMaster>,
-    /// How many Sentinels watch them, this one too.
-    pub sentinels: usize,
     /// The password that is wanted of its client; none where every client is admitted.
     pub password: Option<Text>,
     /// Whether the client gave the password.
     pub admitted: bool,
     /// The Sentinel's current epoch as it was last told; none where requests for votes of any epoch are heard.
     pub current: Option<u64>,
+    /// What its port knows, as it was last told.
+    pub port: PortFacts,
 }
 
 impl Model for ClientInfo {
@@ -66,7 +78,16 @@ impl Model for ClientInfo {
 
     ghost Value = { AskerModel };
 
-    ghost view = { λ asker. record { id = asker.id; name = asker.name; listens = asker.listens; masters = asker.masters.items; sentinels = asker.sentinels; password = asker.password; admitted = asker.admitted; current = asker.current } };
+    ghost view = { λ asker. record {
+      id = asker.id;
+      name = asker.name;
+      listens = asker.listens;
+      masters = asker.masters.items;
+      password = asker.password;
+      admitted = asker.admitted;
+      current = asker.current;
+      port = asker.port;
+    } };
 }
 
 impl ClientInfo {
@@ -96,13 +117,6 @@ impl ClientInfo {
         ensures { result.now ≡ self.now.masters }
     {
         self.masters.as_slice()
-    }
-
-    /// How many Sentinels there are.
-    pub(crate) fn sentinels(&self) -> usize
-        ensures { result ≡ self.now.sentinels }
-    {
-        self.sentinels
     }
 
     /// Whether a password is wanted.
@@ -157,12 +171,11 @@ impl ClientInfo {
         self.listens = listens;
     }
 
-    /// Has it know these masters, which `sentinels` Sentinels watch.
-    pub(crate) fn watch(&mut self, masters: Vec<MonitoredMaster>, sentinels: usize)
-        ensures { self.new ≡ record self.old { masters = masters.items; sentinels = sentinels } }
+    /// Has it know these masters.
+    pub(crate) fn watch(&mut self, masters: Vec<MonitoredMaster>)
+        ensures { self.new ≡ record self.old { masters = masters.items } }
     {
         self.masters = masters;
-        self.sentinels = sentinels;
     }
 
     /// Has it want this password, which its client didn't give.
@@ -192,5 +205,28 @@ impl ClientInfo {
         ensures { self.new ≡ record self.old { admitted = admitted } }
     {
         self.admitted = admitted;
+    }
+
+    /// What its port knows.
+    pub(crate) fn port(&self) -> &PortFacts
+        ensures { result.now ≡ self.now.port }
+    {
+        &self.port
+    }
+
+    /// Has it know this of its port: what it knew before.
+    pub(crate) fn know_port(&mut self, port: PortFacts) -> PortFacts
+        ensures before { result ≡ self.old.port }
+        ensures now { self.new ≡ record self.old { port = port } }
+    {
+        mem::replace(&mut self.port, port)
+    }
+
+    /// The clients at these places are to be closed too. NoMemory: memory was refused, and nothing changed.
+    pub(crate) fn kill(&mut self, places: &[usize]) -> Result<(), NoMemory>
+        ensures ok { OnOk result (self.new ≡ record self.old { port = record self.old.port { killed = self.old.port.killed ++ places.now } }) }
+        ensures err { OnErr result (self.new ≡ self.old) }
+    {
+        self.port.kill(places)
     }
 }

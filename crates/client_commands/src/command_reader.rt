@@ -9,13 +9,12 @@ ghost use Rattle.client_commands.specs.Attendants.{TakesCommon};
 ghost use Rattle.client_commands.specs.Courtesies.{courtesy, asker_after, is_stranger, kind_of, text_of};
 ghost use Rattle.client_commands.specs.Infos.{info};
 ghost use Rattle.client_commands.specs.Lines.{Answers};
-ghost use Rattle.client_commands.specs.Wordings.{wide};
 
 use crate::client_info::{ClientInfo, MonitoredMaster};
 use crate::courtesies::{Courtesy, courtesy_of};
 use crate::infos::info;
 use crate::lines::{next_common, next_value};
-use crate::wordings::wide;
+use crate::port_facts::PortFacts;
 use ballot_law::{Command, NoMemory, Text};
 use resp2::{FrameFault, Frames, OutText, Value};
 use std::alloc::Global;
@@ -82,11 +81,11 @@ impl CommandReader {
         self.asker.listen(listens);
     }
 
-    /// Has it know the masters of the Sentinel, in the roster's order, and how many Sentinels watch them, itself too.
-    pub fn note_masters(&mut self, masters: Vec<MonitoredMaster>, sentinels: usize)
-        ensures { self.new ≡ record self.old { asker = record self.old.asker { masters = masters.items; sentinels = sentinels } } }
+    /// Has it know the masters of the Sentinel, in the roster's order.
+    pub fn note_masters(&mut self, masters: Vec<MonitoredMaster>)
+        ensures { self.new ≡ record self.old { asker = record self.old.asker { masters = masters.items } } }
     {
-        self.asker.watch(masters, sentinels);
+        self.asker.watch(masters);
     }
 
     /// The Sentinel's current epoch as it was last told; none where none was.
@@ -108,6 +107,21 @@ impl CommandReader {
         ensures { self.new ≡ record self.old { asker = record self.old.asker { password = Some password; admitted = false } } }
     {
         self.asker.want_password(password);
+    }
+
+    /// Has it know this of its port: what it knew before.
+    pub fn know_port(&mut self, port: PortFacts) -> PortFacts
+        ensures before { result ≡ self.old.asker.port }
+        ensures now { self.new ≡ record self.old { asker = record self.old.asker { port = port } } }
+    {
+        self.asker.know_port(port)
+    }
+
+    /// The name that its client gave the connection; empty where it gave none.
+    pub fn name(&self) -> &[u8]
+        ensures { result.now ≡ self.now.asker.name }
+    {
+        self.asker.name()
     }
 
     /// Adds the next piece of the stream, of any length. `NoMemory` leaves it unchanged. Any other fault is one that
@@ -170,10 +184,9 @@ impl CommandReader {
         next_common(&mut self.frames)
     }
 
-    /// Attends to a value: what becomes of it. `Left`: the session is to have it. `Widens`: the same, and `widen` makes
-    /// the answer out of the one that the session gives. `AsksMasters`: it is INFO, whose answer `inform` makes.
-    /// `Said`: the text is its answer, of no bytes after an array without items, as an empty line is one; else the text
-    /// is empty.
+    /// Attends to a value: what becomes of it. `Left`: the session is to have it. `AsksMasters`: it is INFO, whose
+    /// answer `inform` makes. `Said`: the text is its answer, of no bytes after an array without items, as an empty
+    /// line is one; else the text is empty.
     ///
     /// `NoMemory`: memory was refused; the connection is to be closed.
     pub fn attend_to(&mut self, value: &Value) -> Result<Courtesy, NoMemory>
@@ -188,20 +201,11 @@ impl CommandReader {
     /// Has the text be the answer to this value, which is INFO, where the Sentinel answers SENTINEL MASTERS with
     /// `masters`. `NoMemory`: memory was refused; the connection is to be closed.
     pub fn inform(&mut self, value: &Value, masters: &Value) -> Result<(), NoMemory>
-        ensures text { OnOk result (self.new.text ≡ spelling (info (view value.now) (view masters.now))) }
+        ensures text { OnOk result (self.new.text ≡ spelling (info self.old.asker.port.figures (view value.now) (view masters.now))) }
         ensures asker { self.new.asker ≡ self.old.asker }
         ensures held { self.new.held ≡ self.old.held }
     {
-        info(self.alloc, value, masters, &mut self.text)
-    }
-
-    /// Has the text be the answer to this value, which `Widens`, where the Sentinel answers it with `answer`.
-    /// `NoMemory`: memory was refused, or the value is no such one; the connection is to be closed.
-    pub fn widen(&mut self, value: &Value, answer: &Value) -> Result<(), NoMemory>
-        ensures text { OnOk result (self.new.text ≡ spelling (wide self.old.asker (view value.now) (view answer.now))) }
-        ensures asker { self.new.asker ≡ self.old.asker }
-        ensures held { self.new.held ≡ self.old.held }
-    {
-        wide(self.alloc, &self.asker, value, answer, &mut self.text)
+        let figures = self.asker.port().figures();
+        info(self.alloc, value, figures, masters, &mut self.text)
     }
 }

@@ -4,19 +4,22 @@ ghost use Rattle.std.specs.Prelude.{◌≡◌, ℕ, List, [], None, IfOk, OnOk};
 ghost use Rattle.resp2.specs.Commands as commands;
 ghost use Rattle.resp2.specs.Framing.Frame as frames;
 ghost use Rattle.resp2.specs.Framing.Frame.{view, frames_view, spelling};
-ghost use Rattle.client_commands.specs.Courtesies.{ClientInfo, known, executed, while_listening, name_after, admitted_after, is_for_strangers, is_barred, admitted_by, or_admitted, words_of, is_miscounted, is_refused, names_channels, answered, named, looked_up_in, own_answer, unless_stranger, or_left, or_same, asks_nothing, reply_to, courtesy, asker_after, kind_of, text_of};
+ghost use Rattle.client_commands.specs.Courtesies.{ClientInfo, known, executed, while_listening, name_after, admitted_after, killed_after, killed_by, or_killed, is_for_strangers, is_barred, admitted_by, or_admitted, words_of, is_miscounted, is_refused, names_channels, answered, named, looked_up_in, left, unless_stranger, or_left, or_same, asks_nothing, reply_to, courtesy, asker_after, kind_of, text_of};
 
 use crate::client_info::ClientInfo;
 use crate::clients::{
     get_name, no_evict, pong, publish, reply, role, say_bulk, say_none, say_number,
 };
 use crate::hellos::{auth, first, hello, is_client_name, set_name};
+use crate::helps::{client_help, command_help};
+use crate::kills::kill;
+use crate::listing::{client_list, own_line};
 use crate::lookup::looked_up;
 use crate::refusals::{is_called, refuse_listener, say};
+use crate::told_subcommands::sentinel_told;
 use crate::verbs::Verb;
-use crate::wordings::{Wording, wording_of};
 use ballot_law::{Command, NoMemory, Text};
-use resp2::{CommandFault, OutText, Value, command_of};
+use resp2::{CommandFault, OutText, Value, redis_command_of};
 use std::alloc::Global;
 
 const NO_AUTH: &[u8] = b"-NOAUTH Authentication required.\r\n";
@@ -26,8 +29,6 @@ const NO_AUTH: &[u8] = b"-NOAUTH Authentication required.\r\n";
 pub enum Courtesy {
     /// The Sentinel's rules answer it.
     Left,
-    /// The Sentinel's rules answer it, and the answer is then told in redis-sentinel's words.
-    Widens,
     /// Its answer is told, where it has one.
     Said,
     /// It is INFO, whose answer is made of that to SENTINEL MASTERS.
@@ -116,7 +117,10 @@ fn greet(
     out: &mut OutText,
 ) -> Result<(), NoMemory>
     ensures text { OnOk result (out.new ≡ text_of (executed asker.old Verb.Hello words.now)) }
-    ensures asker { OnOk result (asker.new ≡ record asker.old { name = name_after asker.old Verb.Hello words.now; admitted = admitted_after asker.old Verb.Hello words.now }) }
+    ensures asker { OnOk result (asker.new ≡ record asker.old {
+      name = name_after asker.old Verb.Hello words.now;
+      admitted = admitted_after asker.old Verb.Hello words.now;
+    }) }
 {
     let left = hello(asker, words, out)?;
     let admitted = left.admitted;
@@ -155,7 +159,7 @@ fn rename(
 }
 
 /// Has the connection carry out a command with these words: the answer, where it is known, the name that the command
-/// gives the connection, and whether its client gave the password then.
+/// gives the connection, whether its client gave the password then, and which clients are to be closed.
 fn execute(
     alloc: Global,
     asker: &mut ClientInfo,
@@ -164,7 +168,11 @@ fn execute(
     out: &mut OutText,
 ) -> Result<(), NoMemory>
     ensures text { OnOk result (out.new ≡ text_of (executed asker.old verb words.now)) }
-    ensures asker { OnOk result (asker.new ≡ record asker.old { name = name_after asker.old verb words.now; admitted = admitted_after asker.old verb words.now }) }
+    ensures asker { OnOk result (asker.new ≡ record asker.old {
+      name = name_after asker.old verb words.now;
+      admitted = admitted_after asker.old verb words.now;
+      port = record asker.old.port { killed = killed_after asker.old verb words.now };
+    }) }
 {
     match verb {
         Verb::Ping => say_bulk(out, first(words)),
@@ -174,14 +182,20 @@ fn execute(
         Verb::SetInfo => say(out, b"+OK\r\n"),
         Verb::GetName => get_name(asker.name(), out),
         Verb::Id => say_number(out, asker.id()),
+        Verb::OfClients => client_list(alloc, asker, words, out),
+        Verb::Own => own_line(alloc, asker, out),
+        Verb::Kill => kill(alloc, asker, words, out),
         Verb::NoEvict => no_evict(words, out),
         Verb::Reply => reply(words, out),
+        Verb::HelpOfClient => client_help(out),
         Verb::Commands => say_none(out),
         Verb::Docs => say_none(out),
-        Verb::Count => say_number(out, 0),
+        Verb::Count => say_number(out, 13),
+        Verb::HelpOfCommand => command_help(out),
         Verb::Role => role(asker.masters(), out),
         Verb::Publish => publish(words, out),
         Verb::Info => say(out, &[]),
+        Verb::Sentinel(sub) => sentinel_told(alloc, asker, sub, words, out),
     }
 }
 
@@ -219,7 +233,11 @@ fn answer_known(
 ) -> Result<Courtesy, NoMemory>
     ensures kind { IfOk result (λ kind. kind ≡ kind_of (answered asker.old (known verb words.now))) }
     ensures text { OnOk result (out.new ≡ text_of (answered asker.old (known verb words.now))) }
-    ensures asker { OnOk result (asker.new ≡ record asker.old { name = named asker.old (known verb words.now); admitted = admitted_by asker.old (known verb words.now) }) }
+    ensures asker { OnOk result (asker.new ≡ record asker.old {
+      name = named asker.old (known verb words.now);
+      admitted = admitted_by asker.old (known verb words.now);
+      port = record asker.old.port { killed = killed_by asker.old (known verb words.now) };
+    }) }
 {
     if asker.listens() {
         answer_listener(verb, words, out)?;
@@ -229,30 +247,23 @@ fn answer_known(
     Ok(kind_of(verb))
 }
 
-/// What becomes of a value that the rules of the Sentinel answer, the answer being told in other words where there are
-/// some: it is left to them, once the client gave the password that is wanted.
-fn leave(
-    asker: &ClientInfo,
-    wording: Option<Wording>,
-    out: &mut OutText,
-) -> Result<Courtesy, NoMemory>
+/// What becomes of a value that the rules of the Sentinel answer: it is left to them, once the client gave the password
+/// that is wanted.
+fn leave(asker: &ClientInfo, out: &mut OutText) -> Result<Courtesy, NoMemory>
     requires { out.old ≡ [] }
-    ensures kind { IfOk result (λ kind. kind ≡ kind_of (unless_stranger asker.now (own_answer wording))) }
-    ensures text { OnOk result (out.new ≡ text_of (unless_stranger asker.now (own_answer wording))) }
+    ensures kind { IfOk result (λ kind. kind ≡ kind_of (unless_stranger asker.now left)) }
+    ensures text { OnOk result (out.new ≡ text_of (unless_stranger asker.now left)) }
 {
     if asker.is_stranger() {
         say(out, NO_AUTH)?;
         return Ok(Courtesy::Said);
     }
-    match wording {
-        Some(_) => Ok(Courtesy::Widens),
-        None => Ok(Courtesy::Left),
-    }
+    Ok(Courtesy::Left)
 }
 
 /// What becomes of these words, which the Sentinel's rules call unknown or refuse for their number. Before the password
 /// that is wanted AUTH and HELLO alone are looked up.
-#[tactic(auto, using(crate::proofs::Lookups::known_is, crate::proofs::Lookups::refused_kind, crate::proofs::Lookups::refused_text, crate::proofs::Lookups::refused_name))]
+#[tactic(auto, using(crate::proofs::Lookups::known_is, crate::proofs::Lookups::refused_kind, crate::proofs::Lookups::refused_text, crate::proofs::Lookups::refused_name, crate::proofs::Lookups::refused_kills, crate::proofs::Lookups::refused_same))]
 fn answer_words(
     alloc: Global,
     asker: &mut ClientInfo,
@@ -266,13 +277,14 @@ fn answer_words(
     ensures asker { OnOk result (asker.new ≡ record asker.old {
       name = or_same asker.old (looked_up_in asker.old miscounted words.now);
       admitted = or_admitted asker.old (looked_up_in asker.old miscounted words.now);
+      port = record asker.old.port { killed = or_killed asker.old (looked_up_in asker.old miscounted words.now) };
     }) }
 {
     let Some((name, more)) = words.split_first() else {
-        return leave(asker, None, out);
+        return leave(asker, out);
     };
     if names_channels(words) || is_barred(asker, name.as_slice()) {
-        return leave(asker, None, out);
+        return leave(asker, out);
     }
     match looked_up(miscounted, name.as_slice(), more, out)? {
         Some((verb, args)) => answer_known(alloc, asker, verb, args, out),
@@ -311,19 +323,20 @@ fn reply_to(
     ensures text { OnOk result (out.new ≡ text_of (reply_to asker.old (view value.now))) }
     ensures asker { OnOk result (asker.new ≡ asker_after asker.old (view value.now)) }
 {
-    let asked = command_of(value);
+    let asked = redis_command_of(value);
     if !is_refused(&asked) {
-        return leave(asker, wording_of(&asked), out);
+        return leave(asker, out);
     }
     let words = words_of(alloc, value)?;
     answer_words(alloc, asker, is_miscounted(&asked), words.as_slice(), out)
 }
 
 /// What becomes of a value of a connection, by the table in docs/CLIENTS.md: `out` is the answer where one is told, and
-/// empty elsewhere. The connection has the name that the value gives it, and it is known whether its client gave the
-/// password; all else that is known of it stays. One value has at most one answer, and one that the Sentinel's rules
-/// answer, be it by a command or by the fault of a word, is left to them, once the client gave the password that is
-/// wanted. An array without items has no answer: it is `Said`, and `out` is empty.
+/// empty elsewhere. The connection has the name that the value gives it; it is known whether its client gave the
+/// password, and which clients of its port are to be closed; all else that is known of it stays. One value has at most
+/// one answer, and one that the Sentinel's rules answer, be it by a command or by the fault of a word, is left to them,
+/// once the client gave the password that is wanted. An array without items has no answer: it is `Said`, and `out` is
+/// empty.
 ///
 /// NoMemory: memory was refused; what `out` then holds, what name the connection has and whether its client is admitted
 /// isn't told.

@@ -16,7 +16,8 @@ const OK: &[u8] = b"+OK\r\n";
 const WRONG_PASSWORD: &[u8] = b"-WRONGPASS invalid username-password pair or user is disabled.\r\n";
 
 const NO_AUTH_YET: &[u8] =
-    b"-NOAUTH HELLO must be called with the client already authenticated, otherwise the HELLO AUTH <user> <pass> option can be used to authenticate the client and select the RESP protocol version at the same time\r\n";
+    b"-NOAUTH HELLO must be called with the client already authenticated, otherwise the HELLO AUTH <user> <pass> \
+    option can be used to authenticate the client and select the RESP protocol version at the same time\r\n";
 
 const NO_NAME: &[u8] =
     b"-ERR Client names cannot contain spaces, newlines or special characters.\r\n";
@@ -66,7 +67,7 @@ fn is_negative(word: &[u8]) -> bool
 }
 
 /// Whether the word is the number of an integer of 64 bits with a sign.
-fn is_integer(word: &[u8]) -> bool
+pub(crate) fn is_integer(word: &[u8]) -> bool
     ensures { result ≡ is_integer word.now }
 {
     canonical_number_of(word, 0, 9_223_372_036_854_775_807).is_some() || is_negative(word)
@@ -273,7 +274,8 @@ fn refuse_auth(out: &mut OutText, wants_password: bool, count: usize) -> Result<
     if count == 1 && !wants_password {
         return say(
             out,
-            b"-ERR AUTH <password> called without any password configured for the default user. Are you sure your configuration is correct?\r\n",
+            b"-ERR AUTH <password> called without any password configured for the default user. \
+            Are you sure your configuration is correct?\r\n",
         );
     }
     if count != 1 && count != 2 {

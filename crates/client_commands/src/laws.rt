@@ -1,34 +1,28 @@
 //! What is known of every courtesy.
 
 ghost use Rattle.std.specs.Prelude.{◌≡◌, ◌↔◌, ◌⊎◌, ◌≤◌, ◌++◌, ℕ, List, [], Bool, true, false, length, Ok, Err};
-ghost use Rattle.std.specs.List.{AllByRecursion, list_any};
+ghost use Rattle.std.specs.List.{list_any};
 ghost use Rattle.ballot_law.specs.declared.commands.Command.{Command};
 ghost use Rattle.resp2.specs.declared.command.CommandFault.TheVariants.{UnknownCommand, WrongArguments};
-ghost use Rattle.resp2.specs.Asked.{IsCommon};
-ghost use Rattle.resp2.specs.Commands.{command_of};
+ghost use Rattle.resp2.specs.Commands.{redis_command_of};
 ghost use Rattle.resp2.specs.declared.framing.fault.Unread.TheVariants.{NeedsMore};
 ghost use Rattle.resp2.specs.Framing.Frame.{Frame, spelling, HasLines, IsFrame};
 ghost use Rattle.resp2.specs.Framing.Reading.{Stays};
 ghost use Rattle.client_commands.specs.declared.courtesies.Courtesy.TheVariants.{Said};
-ghost use Rattle.client_commands.specs.declared.tables.Table.{Table};
 ghost use Rattle.client_commands.specs.Lines.{value_at, IsLineOf};
-ghost use Rattle.client_commands.specs.Widening.{field_name, otherwise, fields_of, told, wide_words};
-ghost use Rattle.client_commands.specs.Wordings.{wide};
-ghost use Rattle.client_commands.specs.Courtesies.{ClientInfo, left, widens, wording_of, own_answer, said, silent, asks_nothing, is_stranger, is_password, words_of, courtesy, asker_after, kind_of};
+ghost use Rattle.client_commands.specs.Courtesies.{ClientInfo, left, said, silent, asks_nothing, is_stranger, is_password, words_of, courtesy, asker_after, kind_of};
 
-/// A command of the Sentinel's rules is left to them, where the client gave the password that is wanted: SENTINEL
-/// MASTER, MASTERS, REPLICAS, SENTINELS and CKQUORUM with their answers told in other words, each other one as it is,
-/// so each that comes nearly always. So is each value that they refuse for another reason than that they don't know the
-/// command or its number of words, but for an array without items. A command changes nothing of the connection.
+/// A command of the Sentinel's rules is left to them, where the client gave the password that is wanted. So is each
+/// value that they refuse for another reason than that they don't know the command or its number of words, but for an
+/// array without items. A command changes nothing of the connection.
 pub fn law_own_values_are_left()
-    ensures own { (asker : ClientInfo) (value : Frame) (command : Command) → is_stranger asker ≡ false → command_of value ≡ Ok command
-        → courtesy asker value ≡ own_answer (wording_of (Ok command)) }
-    ensures same { (asker : ClientInfo) (value : Frame) (command : Command) → command_of value ≡ Ok command → asker_after asker value ≡ asker }
-    ensures common { (asker : ClientInfo) (value : Frame) (command : Command) → is_stranger asker ≡ false → command_of value ≡ Ok command → IsCommon command
-        → courtesy asker value ≡ left }
+    ensures own { (asker : ClientInfo) (value : Frame) (command : Command) → is_stranger asker ≡ false
+        → redis_command_of value ≡ Ok command → courtesy asker value ≡ left }
+    ensures same { (asker : ClientInfo) (value : Frame) (command : Command) → redis_command_of value ≡ Ok command
+        → asker_after asker value ≡ asker }
     ensures refused { (asker : ClientInfo) (value : Frame) → is_stranger asker ≡ false
-        → (asks_nothing value ≡ true)
-        ⊎ (((courtesy asker value ≡ left) ⊎ (courtesy asker value ≡ widens)) ⊎ ((command_of value ≡ Err UnknownCommand) ⊎ (command_of value ≡ Err WrongArguments))) }
+        → (asks_nothing value ≡ true) ⊎ ((courtesy asker value ≡ left)
+        ⊎ ((redis_command_of value ≡ Err UnknownCommand) ⊎ (redis_command_of value ≡ Err WrongArguments))) }
 {}
 
 /// Where a password is wanted that the client didn't give, each value is answered by a courtesy, so none reaches the
@@ -37,18 +31,6 @@ pub fn law_strangers_reach_nothing()
     ensures answered { (asker : ClientInfo) (value : Frame) → is_stranger asker ≡ true → kind_of (courtesy asker value) ≡ Said }
     ensures admitted { (asker : ClientInfo) (value : Frame) → is_stranger asker ≡ true → is_stranger (asker_after asker value) ≡ false
         → list_any (is_password asker.password) (words_of value) ≡ true }
-{}
-
-/// Of each field a row that is told with more fields has what the Sentinel's own row has, or what is told of a field
-/// that this doesn't have.
-pub fn law_wide_rows_keep_fields()
-    ensures { (table : Table) (words : List (List ℕ))
-        → AllByRecursion (λ f. told (field_name f) [] (wide_words (fields_of table) words) ≡ told (field_name f) (otherwise f) words) (fields_of table) }
-{}
-
-/// An answer that is told in other words is one value, where the Sentinel's own is one.
-pub fn law_wide_answers_are_values()
-    ensures { (asker : ClientInfo) (value answer : Frame) → HasLines answer → HasLines (wide asker value answer) }
 {}
 
 /// No line of an answer holds a CR or LF, so what is written of it is one value: one answer.

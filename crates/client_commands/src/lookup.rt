@@ -1,14 +1,16 @@
 //! Which command the words are.
 
-ghost use Rattle.std.specs.Prelude.{◌≡◌, ◌++◌, IfOk, OnOk, option_map, map, codes};
+ghost use Rattle.std.specs.Prelude.{◌≡◌, ◌++◌, ◌∷◌, IfOk, OnOk, option_map, map, codes};
 ghost use Rattle.ballot_law.specs.Words.{lower};
 ghost use Rattle.resp2.specs.Framing.Frame.{spelling};
 ghost use Rattle.client_commands.specs.Refusals.{printed_byte, wrong_arguments};
-ghost use Rattle.client_commands.specs.Courtesies.{found, text_after, taken, client_named, client, command, sentinel, other_named, looked_up};
+ghost use Rattle.client_commands.specs.Courtesies.{found, text_after, taken, clients_named, client_named, client, command, subcommand, sentinel, other_named, looked_up};
+ghost use Rattle.client_commands.specs.Subcommands.{all_subs, sub_among};
 
 use crate::refusals::{
     is_called, printed_byte, refuse_arguments, refuse_command, refuse_subcommand,
 };
+use crate::subcommands::sub_named;
 use crate::verbs::Verb;
 use ballot_law::{NoMemory, Text};
 use resp2::OutText;
@@ -27,6 +29,31 @@ fn taken<'a>(
         return Ok(Some((verb, words)));
     }
     refuse_arguments(out, verb.name())?;
+    Ok(None)
+}
+
+/// The subcommand of CLIENT about the clients of a port that is called so.
+fn clients_named<'a>(
+    word: &[u8],
+    words: &'a [Text],
+    out: &mut OutText,
+) -> Result<Option<(Verb, &'a [Text])>, NoMemory>
+    ensures known { IfOk result (λ known. option_map (λ x. (x.0, x.1.now)) known ≡ found (clients_named word.now words.now)) }
+    ensures text { OnOk result (out.new ≡ text_after out.old (clients_named word.now words.now)) }
+{
+    if is_called(b"list", word) {
+        return Ok(Some((Verb::OfClients, words)));
+    }
+    if is_called(b"info", word) {
+        return taken(Verb::Own, words.len() == 0, words, out);
+    }
+    if is_called(b"kill", word) {
+        return taken(Verb::Kill, 0 < words.len(), words, out);
+    }
+    if is_called(b"help", word) {
+        return taken(Verb::HelpOfClient, words.len() == 0, words, out);
+    }
+    refuse_subcommand(out, b"CLIENT HELP.", word)?;
     Ok(None)
 }
 
@@ -57,8 +84,7 @@ fn client_named<'a>(
     if is_called(b"reply", word) {
         return taken(Verb::Reply, words.len() == 1, words, out);
     }
-    refuse_subcommand(out, b"CLIENT HELP.", word)?;
-    Ok(None)
+    clients_named(word, words, out)
 }
 
 /// The subcommand of CLIENT that these words are.
@@ -87,6 +113,9 @@ fn command<'a>(words: &'a [Text], out: &mut OutText) -> Result<Option<(Verb, &'a
     if is_called(b"count", word.as_slice()) {
         return taken(Verb::Count, more.len() == 0, more, out);
     }
+    if is_called(b"help", word.as_slice()) {
+        return taken(Verb::HelpOfCommand, more.len() == 0, more, out);
+    }
     refuse_subcommand(out, b"COMMAND HELP.", word.as_slice())?;
     Ok(None)
 }
@@ -113,17 +142,60 @@ fn add_lower(out: &mut OutText, word: &[u8]) -> Result<(), NoMemory>
     Ok(())
 }
 
-/// Refuses SENTINEL with these words, whose number the Sentinel's rules refused or of which they know no subcommand.
-fn refuse_sentinel(miscounted: bool, words: &[Text], out: &mut OutText) -> Result<(), NoMemory>
-    ensures { OnOk result (out.new ≡ text_after out.old (sentinel miscounted words.now)) }
+/// The subcommand of SENTINEL that is called so and that the Sentinel's rules don't know.
+fn subcommand<'a>(
+    word: &[u8],
+    words: &'a [Text],
+    out: &mut OutText,
+) -> Result<Option<(Verb, &'a [Text])>, NoMemory>
+    ensures known { IfOk result (λ known. option_map (λ x. (x.0, x.1.now)) known ≡ found (subcommand (sub_among all_subs word.now) word.now words.now)) }
+    ensures text { OnOk result (out.new ≡ text_after out.old (subcommand (sub_among all_subs word.now) word.now words.now)) }
 {
-    let Some((word, _)) = words.split_first() else {
-        return refuse_arguments(out, b"sentinel");
-    };
-    if miscounted {
-        return refuse_miscounted(out, word.as_slice());
+    match sub_named(word) {
+        Some(sub) => {
+            let fits = sub.takes_count(words.len());
+            taken(Verb::Sentinel(sub), fits, words, out)
+        }
+        None => {
+            refuse_subcommand(out, b"SENTINEL HELP.", word)?;
+            Ok(None)
+        }
     }
-    refuse_subcommand(out, b"SENTINEL HELP.", word.as_slice())
+}
+
+/// SENTINEL with this word and those after it, as `sentinel`.
+fn sentinel_of<'a>(
+    miscounted: bool,
+    word: &[u8],
+    words: &'a [Text],
+    out: &mut OutText,
+) -> Result<Option<(Verb, &'a [Text])>, NoMemory>
+    ensures known { IfOk result (λ known. option_map (λ x. (x.0, x.1.now)) known ≡ found (sentinel miscounted (word.now ∷ words.now))) }
+    ensures text { OnOk result (out.new ≡ text_after out.old (sentinel miscounted (word.now ∷ words.now))) }
+{
+    if miscounted {
+        refuse_miscounted(out, word)?;
+        return Ok(None);
+    }
+    subcommand(word, words, out)
+}
+
+/// SENTINEL with these words, whose number the Sentinel's rules refused or of which they know no subcommand.
+fn sentinel<'a>(
+    miscounted: bool,
+    words: &'a [Text],
+    out: &mut OutText,
+) -> Result<Option<(Verb, &'a [Text])>, NoMemory>
+    ensures known { IfOk result (λ known. option_map (λ x. (x.0, x.1.now)) known ≡ found (sentinel miscounted words.now)) }
+    ensures text { OnOk result (out.new ≡ text_after out.old (sentinel miscounted words.now)) }
+{
+    match words {
+        [] => {
+            refuse_arguments(out, b"sentinel")?;
+            Ok(None)
+        }
+        [word, more @ ..] => sentinel_of(miscounted, word.as_slice(), more, out),
+    }
 }
 
 /// A command that is none of those of a connection.
@@ -146,8 +218,9 @@ fn other_named<'a>(
         return Ok(Some((Verb::Info, words)));
     }
     if is_called(b"sentinel", name) {
-        refuse_sentinel(miscounted, words, out)?;
-    } else if is_called(b"subscribe", name) {
+        return sentinel(miscounted, words, out);
+    }
+    if is_called(b"subscribe", name) {
         refuse_arguments(out, b"subscribe")?;
     } else {
         refuse_command(out, name, words)?;

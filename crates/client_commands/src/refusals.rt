@@ -2,7 +2,7 @@
 
 ghost use Rattle.std.specs.Prelude.{◌≡◌, ◌++◌, OnOk, map, length, take};
 ghost use Rattle.resp2.specs.Framing.Frame.{fault, spelling};
-ghost use Rattle.client_commands.specs.Refusals.{is_called, printed_byte, printed, wrong_arguments, unknown_subcommand, shown_words, unknown_command, no_option, not_while_listening};
+ghost use Rattle.client_commands.specs.Refusals.{is_called, printed_byte, printed, wrong_arguments, unknown_subcommand, shown_words, unknown_command, no_option, not_while_listening, quote_end};
 
 use ballot_law::{NoMemory, Text};
 use resp2::OutText;
@@ -126,6 +126,14 @@ pub(crate) fn refuse_subcommand(out: &mut OutText, help: &[u8], word: &[u8]) -> 
     )?;
     out.add(help)?;
     out.add(b"\r\n")
+}
+
+/// A word that is none of those that are known, after this text; a quote follows.
+pub(crate) fn refuse_named(out: &mut OutText, before: &[u8], word: &[u8]) -> Result<(), NoMemory>
+    ensures { OnOk result (out.new ≡ before.now ++ (printed (length word.now) word.now ++ quote_end)) }
+{
+    out.clear();
+    add_shown(out, before, word, word.len(), b"'\r\n")
 }
 
 /// HELLO has no such option, or not with so few words.

@@ -3,6 +3,8 @@
 ghost use Rattle.std.specs.Prelude.{◌≡◌};
 ghost use Rattle.client_commands.specs.Courtesies.{verb_name};
 
+use crate::subcommands::Sub;
+
 /// A command beside a Sentinel's own.
 #[derive(Clone, Copy)]
 pub(crate) enum Verb {
@@ -13,14 +15,20 @@ pub(crate) enum Verb {
     SetInfo,
     GetName,
     Id,
+    OfClients,
+    Own,
+    Kill,
     NoEvict,
     Reply,
+    HelpOfClient,
     Commands,
     Docs,
     Count,
+    HelpOfCommand,
     Role,
     Publish,
     Info,
+    Sentinel(Sub),
 }
 
 impl Verb {
@@ -36,14 +44,20 @@ impl Verb {
             Verb::SetInfo => b"client|setinfo",
             Verb::GetName => b"client|getname",
             Verb::Id => b"client|id",
+            Verb::OfClients => b"client|list",
+            Verb::Own => b"client|info",
+            Verb::Kill => b"client|kill",
             Verb::NoEvict => b"client|no-evict",
             Verb::Reply => b"client|reply",
+            Verb::HelpOfClient => b"client|help",
             Verb::Commands => b"command",
             Verb::Docs => b"command|docs",
             Verb::Count => b"command|count",
+            Verb::HelpOfCommand => b"command|help",
             Verb::Role => b"role",
             Verb::Publish => b"publish",
             Verb::Info => b"info",
+            Verb::Sentinel(sub) => sub.name(),
         }
     }
 }

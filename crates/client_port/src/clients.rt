@@ -11,6 +11,8 @@ use crate::admission::{Admission, refuse_further};
 use crate::ages::Ages;
 use crate::connection::{Connection, Origin};
 use crate::port_room::PortRoom;
+use crate::process_times::ReadsTimes;
+use crate::roll::{Arrival, Roll};
 use crate::seats::{Newcomer, Seats};
 use crate::standing::Look;
 use crate::waiting::{Line, Waiting};
@@ -64,7 +66,8 @@ pub(crate) struct Terms {
 /// has all by their last byte, and `strangers` those that owe the password by when they came. `next_id` is the number
 /// of the next connection: no other one of the port has it, since each of its threads has its own numbers. `unsent` is
 /// how many bytes of all of them were unsent as each was looked at last. `reading` is that of the clock at the last
-/// turn, and `next_look` that from which on it is looked who has been silent for long.
+/// turn, and `next_look` that from which on it is looked who has been silent for long. `roll` is what their clients
+/// are told of the port.
 #[derive(Drop)]
 pub(crate) struct Clients {
     poll: Poll,
@@ -81,6 +84,7 @@ pub(crate) struct Clients {
     next_look: u64,
     next_id: u64,
     terms: Terms,
+    roll: Roll,
     alloc: Global,
     ghost few: { slab_len connections ≤ room.each },
 }
@@ -94,6 +98,14 @@ fn terms_of(alloc: Global, admission: &Admission) -> Result<Terms, AllocError>
         idle_ms: u64::from(admission.idle_seconds) * 1_000,
         makes_room: admission.limit.is_some(),
     })
+}
+
+/// How many clients may be connected to a port with this room that lets these in.
+fn most_of(room: PortRoom, admission: &Admission) -> u64 {
+    match admission.limit {
+        Some(most) => u64::from(most),
+        None => room.all() as u64,
+    }
 }
 
 impl Clients {
@@ -129,6 +141,7 @@ impl Clients {
             next_look: 0,
             next_id: u64::from(thread) + 1,
             terms: terms_of(alloc, admission)?,
+            roll: Roll::new(alloc, room.courteous(), most_of(room, admission)),
             alloc,
         })
     }
@@ -183,6 +196,7 @@ impl Clients {
     /// Keeps a connection for which another one goes, and tells its client that it is one too many where none has to.
     pub(crate) fn keep_instead(&mut self, newcomer: Newcomer) {
         let Some(key) = self.first_to_go() else {
+            self.seats.note_rejected();
             return refuse_further(newcomer.stream);
         };
         self.close(key);
@@ -226,6 +240,7 @@ impl Clients {
         }
         let Newcomer {
             mut stream,
+            address,
             place,
             is_peer,
             clears: _,
@@ -234,9 +249,16 @@ impl Clients {
         let Ok(session) = self.next_session() else {
             return Ok(false);
         };
+        let arrival = Arrival {
+            id: self.next_id,
+            address,
+            local: stream.local_addr()?,
+            came: self.reading,
+        };
         self.next_id = self.next_id.saturating_add(u64::from(self.room.threads()));
         let key = self.connections.vacant_key();
         self.make_room(key)?;
+        self.roll.add(key, &arrival)?;
         self.poll.registry().register(
             &mut stream,
             Token(key),
@@ -260,6 +282,7 @@ impl Clients {
         if let Some(connection) = self.connections.try_remove(key) {
             self.unsent = self.unsent.saturating_sub(connection.counted());
             self.seats.free(connection.place());
+            self.roll.remove(key);
         }
     }
 
@@ -297,7 +320,16 @@ impl Clients {
         };
         let began = state.clock.now(rt);
         self.reading = began;
-        if !connection.turn(rt, state, member, seat, began) {
+        self.roll.count(&*self.seats, member, began);
+        self.roll.swap(connection);
+        let is_whole = connection.turn(rt, state, member, seat, began);
+        self.roll.swap(connection);
+        self.roll.note(key, connection);
+        self.seats.note_answered(connection.take_answered());
+        if self.roll.is_killed(key) {
+            connection.end();
+        }
+        if !is_whole {
             return self.close(key);
         }
         if connection.listens() {
@@ -369,6 +401,33 @@ impl Clients {
         if self.note_event(key, event) {
             self.answer_one(rt, state, member, seat, key);
         }
+    }
+
+    /// Whether the connection with this key is closed once all is sent, or isn't there.
+    fn is_ending(&self, key: usize) -> bool {
+        match self.connections.get(key) {
+            Some(connection) => connection.ends(),
+            None => true,
+        }
+    }
+
+    /// Closes the connections that CLIENT KILL named. One that named itself is closed once its answer is sent.
+    pub(crate) fn close_killed(&mut self) {
+        for key in self.roll.take_killed() {
+            if !self.is_ending(key) {
+                self.close(key);
+            }
+        }
+    }
+
+    /// The clients are those of this Sentinel's port.
+    pub(crate) fn serve_for<J: Which, S: ConfStore>(&mut self, member: &RunningSentinel<J, S>) {
+        self.roll.serve(member);
+    }
+
+    /// Looks at the times of the process from time to time.
+    pub(crate) fn look_at_times<R: ReadsTimes>(&mut self, rt: &R) {
+        self.roll.look_at_times(rt, self.reading);
     }
 
     /// Sends what the connections can send of which the system told. That comes after all of them were answered: then a

@@ -10,6 +10,7 @@ use crate::read_buffer::{PIECE, ReadBuffer};
 use crate::seats::Place;
 use crate::standing::Standing;
 use crate::waiting::Line;
+use client_commands::PortFacts;
 use courteous_sessions::ClientSession;
 use sentinel_conf::ConfStore;
 use sentinel_core::ServeFault;
@@ -117,6 +118,42 @@ impl<T: Read + Write + Drop> Connection<T> {
         ensures { self.new.session ≡ self.old.session }
     {
         self.session.rest();
+    }
+
+    /// Has its session know this of the port: what it knew before.
+    pub(crate) fn know_port(&mut self, port: PortFacts) -> PortFacts {
+        self.session.know_port(port)
+    }
+
+    /// The name that its client gave it.
+    pub(crate) fn name(&self) -> &[u8] {
+        self.session.name()
+    }
+
+    /// To how many channels its client listens, and for how many patterns.
+    pub(crate) fn subscriptions(&self) -> (u32, u32) {
+        self.session.subscriptions()
+    }
+
+    /// How many values were answered since this was asked.
+    pub(crate) fn take_answered(&mut self) -> u64
+        ensures { self.new.session ≡ self.old.session }
+    {
+        self.session.take_answered()
+    }
+
+    /// No more of it is read or answered: it is closed once all is sent.
+    pub(crate) fn end(&mut self)
+        ensures { self.new ≡ record self.old { ends = true } }
+    {
+        self.ends = true;
+    }
+
+    /// Whether it is closed once all is sent.
+    pub(crate) fn ends(&self) -> bool
+        ensures { result ≡ self.now.ends }
+    {
+        self.ends
     }
 
     /// What counts where it may have to go.

@@ -11,7 +11,7 @@ use mio::{Interest, Registry, Token};
 use sentinel_runtime::RunState;
 use std::alloc::Global;
 use std::io::{self, ErrorKind};
-use std::net::{IpAddr, Net, SocketAddr};
+use std::net::{Net, SocketAddr};
 use std::rt::Clock;
 use std::sync::{Arc, Wait};
 
@@ -171,11 +171,19 @@ impl Listener {
         }
     }
 
-    /// Keeps a connection from this ip, or tells its client why it is closed.
-    fn take_in<R: Wait>(&self, rt: &R, clients: &mut Clients, stream: TcpStream, ip: IpAddr) {
+    /// Keeps a connection from this address, or tells its client why it is closed.
+    fn take_in<R: Wait>(
+        &self,
+        rt: &R,
+        clients: &mut Clients,
+        stream: TcpStream,
+        address: SocketAddr,
+    ) {
+        let ip = address.ip();
         let own = self.seats.own_of(ip);
         let newcomer = Newcomer {
             stream,
+            address,
             place: place_of(own),
             is_peer: self.seats.is_peer(ip),
             clears: false,
@@ -183,8 +191,14 @@ impl Listener {
         match self.seats.arrival(ip, own.is_some()) {
             Admitted::Kept | Admitted::OnOwnSeat => self.give(rt, clients, newcomer),
             Admitted::MakesRoom => self.make_room(rt, clients, newcomer),
-            Admitted::Denied => refuse_foreign(newcomer.stream),
-            Admitted::TooMany => refuse_further(newcomer.stream),
+            Admitted::Denied => {
+                self.seats.note_rejected();
+                refuse_foreign(newcomer.stream);
+            }
+            Admitted::TooMany => {
+                self.seats.note_rejected();
+                refuse_further(newcomer.stream);
+            }
         }
     }
 
@@ -197,7 +211,7 @@ impl Listener {
     fn accept_at<R: Wait>(&self, rt: &R, clients: &mut Clients, socket: &TcpListener) -> Stopped {
         for _ in 0..ACCEPTS_MAX {
             match socket.accept() {
-                Ok((stream, address)) => self.take_in(rt, clients, stream, address.ip()),
+                Ok((stream, address)) => self.take_in(rt, clients, stream, address),
                 Err(error) => match error.kind() {
                     ErrorKind::WouldBlock => return Stopped::NoneWait,
                     ErrorKind::Interrupted | ErrorKind::ConnectionAborted => {}

@@ -1,6 +1,7 @@
 //! A port that serves its clients.
 
-ghost use Rattle.std.specs.Prelude.{◌≡◌, ◌+◌, [], false, All, IfOk, length};
+ghost use Rattle.std.specs.Prelude.{◌≡◌, ◌+◌, [], false, All, IfOk, IsFalse, length};
+ghost use Rattle.sentinel_rules.specs.declared.profiles.Profile.{Profile};
 ghost use Rattle.sentinel_rules.specs.Profiles.{is_redis};
 
 use crate::admission::Admission;
@@ -8,13 +9,15 @@ use crate::clients::Clients;
 use crate::handoff::Handoff;
 use crate::listener::{Acceptor, LISTENER, Listener, Sockets};
 use crate::port_room::PortRoom;
+use crate::process_times::ReadsTimes;
 use crate::seats::Seats;
 use log::Log;
 use mio::Events;
 use sentinel_conf::ConfStore;
+use sentinel_rules::Profile;
 use sentinel_runtime::{RunState, RunningSentinel, ThreadSeat, Which};
 use std::alloc::Global;
-use std::io;
+use std::io::{self, ErrorKind};
 use std::net::{Ipv4Addr, Net, SocketAddr};
 use std::rt::Clock;
 use std::sync::atomic::{AtomicU64, Ordering};
@@ -30,6 +33,16 @@ pub struct Port {
     entrance: Acceptor,
     events: Events<Global>,
     thread: u16,
+}
+
+/// Whether clients would have to give a password that nobody asks of them: a strict profile asks for none.
+fn asks_in_vain(profile: Profile, admission: &Admission) -> bool
+    ensures { IsFalse result → is_redis profile ≡ false → admission.now.password ≡ [] }
+{
+    match admission.password.as_slice() {
+        [] => false,
+        _ => !profile.is_redis(),
+    }
 }
 
 impl Port {
@@ -61,8 +74,10 @@ impl Port {
 
     /// Lets those in who come to these sockets, with so much room for all of them: what the first thread serves, and
     /// what each further one does, in their order. The first one accepts, and each connection goes to the thread that
-    /// has the fewest; one for which none has room is closed. An error is the system's; `OutOfMemory` is a refused
-    /// allocation. Each of them wants the password of who lets them in; a strict profile has none to want.
+    /// has the fewest; one for which none has room is closed. Each of them wants the password of who lets them in.
+    ///
+    /// An error is the system's; `OutOfMemory` is a refused allocation, and `InvalidInput` comes where a strict profile
+    /// would have to want a password, which asks nobody for one: then nothing is opened, and the sockets are closed.
     pub fn open_at<N: Net>(
         net: &N,
         alloc: Global,
@@ -70,7 +85,26 @@ impl Port {
         room: PortRoom,
         admission: &Admission,
     ) -> io::Result<(Port, Vec<Port>)>
-        requires asked { is_redis room.profile ≡ false → admission.now.password ≡ [] }
+        ensures asked { IfOk result (λ _. is_redis room.profile ≡ false → admission.now.password ≡ []) }
+        ensures threads { IfOk result (λ parts. length parts.1.items + 1 ≡ room.threads) }
+        ensures first { IfOk result (λ parts. parts.0.clients.terms.password ≡ admission.now.password) }
+        ensures others { IfOk result (λ parts. All (λ port. port.clients.terms.password ≡ admission.now.password)
+            parts.1.items) }
+    {
+        if asks_in_vain(room.profile(), admission) {
+            return Err(io::Error::from(ErrorKind::InvalidInput));
+        }
+        Port::parts(net, alloc, sockets, room, admission)
+    }
+
+    /// What the first thread serves, and what each further one does: as `open_at` has it, for each password.
+    fn parts<N: Net>(
+        net: &N,
+        alloc: Global,
+        sockets: Sockets,
+        room: PortRoom,
+        admission: &Admission,
+    ) -> io::Result<(Port, Vec<Port>)>
         ensures threads { IfOk result (λ parts. length parts.1.items + 1 ≡ room.threads) }
         ensures first { IfOk result (λ parts. parts.0.clients.terms.password ≡ admission.now.password) }
         ensures others { IfOk result (λ parts. All (λ port. port.clients.terms.password ≡ admission.now.password)
@@ -100,7 +134,7 @@ impl Port {
     /// Serves until `ending` isn't 0 or the Sentinel closes its port, and looks at the first of these before each
     /// connection. The error is the system's, where it tells of no connection any more. No memory is taken for that: a
     /// connection that has none is closed.
-    pub fn serve<J: Which, S: ConfStore, R: Wait + Clock + Log>(
+    pub fn serve<J: Which, S: ConfStore, R: Wait + Clock + ReadsTimes + Log>(
         &mut self,
         rt: &R,
         state: &RunState,
@@ -112,6 +146,7 @@ impl Port {
             member.tell_events();
         }
         self.clients.hand_waker(rt, member, self.thread);
+        self.clients.serve_for(member);
         let log = member.noting(rt);
         for _ in rt.forever() {
             if ending.load(Ordering::SeqCst) != 0 || member.is_closed(state) {
@@ -122,9 +157,12 @@ impl Port {
                 self.entrance.close(rt);
                 return Err(error);
             }
+            self.clients.look_at_times(rt);
             self.answer_events(rt, state, member, seat, ending);
+            self.clients.close_killed();
             self.clients.send_events(&self.events);
             self.clients.serve_busy(rt, state, member, seat, ending);
+            self.clients.close_killed();
             self.clients.tell_news(rt, member, self.thread);
             self.look_at_silent(rt, state);
         }

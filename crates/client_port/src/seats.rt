@@ -7,7 +7,7 @@ use crate::admission::{Admission, Admitted, arrival_of};
 use mio::net::TcpStream;
 use std::alloc::Global;
 use std::io;
-use std::net::IpAddr;
+use std::net::{IpAddr, SocketAddr};
 use std::sync::atomic::{AtomicU64, Ordering};
 
 /// How many seats are kept for each address of another Sentinel: for the connection that it has, and for the one that
@@ -42,11 +42,12 @@ pub(crate) fn place_of(own: Option<usize>) -> Place
     }
 }
 
-/// A connection that came, with the seat that it took, and whether another Sentinel has its ip. One that `clears`
-/// takes a seat only where another one goes.
+/// A connection that came, with whence it came, the seat that it took, and whether another Sentinel has its ip. One
+/// that `clears` takes a seat only where another one goes.
 #[derive(Drop)]
 pub(crate) struct Newcomer {
     pub(crate) stream: TcpStream,
+    pub(crate) address: SocketAddr,
     pub(crate) place: Place,
     pub(crate) is_peer: bool,
     pub(crate) clears: bool,
@@ -61,13 +62,18 @@ struct KeptSeats {
 }
 
 /// The seats of a port: how many connections have one that is for anybody, and those that are kept. The thread that
-/// accepts takes them, and each thread frees those of its connections.
+/// accepts takes them, and each thread frees those of its connections. All threads count together how many connections
+/// are `connected`, how many were `received` and `rejected`, and how many values of clients were `answered`.
 #[derive(Drop)]
 pub(crate) struct Seats {
     limit: Option<u16>,
     near_only: bool,
     common: AtomicU64,
     kept: Vec<KeptSeats>,
+    connected: AtomicU64,
+    received: AtomicU64,
+    rejected: AtomicU64,
+    answered: AtomicU64,
 }
 
 /// The number of an IPv4 address; None of any other.
@@ -107,6 +113,10 @@ impl Seats {
             near_only: admission.near_only,
             common: AtomicU64::new(0),
             kept,
+            connected: AtomicU64::new(0),
+            received: AtomicU64::new(0),
+            rejected: AtomicU64::new(0),
+            answered: AtomicU64::new(0),
         })
     }
 
@@ -174,10 +184,43 @@ impl Seats {
     /// A connection has such a seat from now on.
     pub(crate) fn take(&self, place: Place) {
         self.taken(place).fetch_add(1, Ordering::SeqCst);
+        self.connected.fetch_add(1, Ordering::SeqCst);
+        self.received.fetch_add(1, Ordering::SeqCst);
     }
 
     /// A connection that had such a seat is gone.
     pub(crate) fn free(&self, place: Place) {
         self.taken(place).fetch_sub(1, Ordering::SeqCst);
+        self.connected.fetch_sub(1, Ordering::SeqCst);
+    }
+
+    /// A connection was refused.
+    pub(crate) fn note_rejected(&self) {
+        self.rejected.fetch_add(1, Ordering::SeqCst);
+    }
+
+    /// So many values of clients more were answered.
+    pub(crate) fn note_answered(&self, count: u64) {
+        self.answered.fetch_add(count, Ordering::SeqCst);
+    }
+
+    /// How many connections have a seat.
+    pub(crate) fn connected(&self) -> u64 {
+        self.connected.load(Ordering::SeqCst)
+    }
+
+    /// How many took one since the port is open.
+    pub(crate) fn received(&self) -> u64 {
+        self.received.load(Ordering::SeqCst)
+    }
+
+    /// How many were refused.
+    pub(crate) fn rejected(&self) -> u64 {
+        self.rejected.load(Ordering::SeqCst)
+    }
+
+    /// How many values of clients were answered.
+    pub(crate) fn answered(&self) -> u64 {
+        self.answered.load(Ordering::SeqCst)
     }
 }

@@ -11,64 +11,22 @@ use Rattle.pubsub.proofs.OwnCommands.{own_is_other, own_is_said}
 use Rattle.pubsub.proofs.Sounding.{untold}
 use Rattle.port_sessions.specs.Listening.{note_text}
 use Rattle.ballot_law.specs.declared.commands.Command.{Command}
-use Rattle.ballot_law.specs.declared.commands.Command.TheVariants.{Ping, IsMasterDownByAddr, GetMasterAddrByName, Masters, Master, Replicas, Sentinels, MyId, CkQuorum, FlushConfig, Subscribe}
-use Rattle.client_commands.specs.Courtesies.{is_stranger, ClientInfo, Answer, left, widens, said, asks_masters, silent, asks_nothing, courtesy, own_answer, wording_of, kind_of}
+use Rattle.ballot_law.specs.declared.commands.Command.TheVariants.{Ping, IsMasterDownByAddr, GetMasterAddrByName, Masters, Master, Replicas, Sentinels, MyId, CkQuorum, Failover, FlushConfig, Subscribe}
+use Rattle.client_commands.specs.Courtesies.{is_stranger, ClientInfo, Answer, left, said, asks_masters, silent, asks_nothing, courtesy, kind_of}
 use Rattle.client_commands.specs.declared.courtesies.Courtesy.TheVariants.{Said}
 use Rattle.client_commands.proofs.Strangers.{strangers_are_answered}
-use Rattle.client_commands.proofs.OwnValues.{own_is_left, own_is_same, common_is_left, refused_or_left}
-use Rattle.client_commands.proofs.Silence.{command_asks}
+use Rattle.client_commands.proofs.OwnValues.{own_is_left, own_is_same}
 use Rattle.port_sessions.specs.Talks.{Party, Responds}
 use Rattle.resp2.specs.declared.command.CommandFault.{CommandFault}
 use Rattle.resp2.specs.declared.command.CommandFault.TheVariants.{UnknownCommand, WrongArguments}
 use Rattle.resp2.specs.Asked.{IsCommon}
 use Rattle.resp2.specs.Commands.{command_of}
+use Rattle.resp2.proofs.Switches.{known_too}
 use Rattle.resp2.specs.Framing.Frame.{Frame, FrameList, no_frames}
 use Rattle.sentinel_cell.specs.Histories.{World}
 use Rattle.courteous_sessions.specs.Visits.{Guest, guest, switches, channel_turn, Answers, Serves, ServesBy}
 use Rattle.courteous_sessions.specs.Epochs.{heard_as}
-use Rattle.courteous_sessions.specs.Laws.{Tells, AnswersOwnAsBefore, HearsAll, HearsNear, HearsFar, AnswersListeners, TakesNoTurn, IsPassedOver, StrangersTakeNoTurn, NothingElseIsTold, NoOtherNoteIsTold}
-
--- a command isn't refused
-is_own : (answer own : Answer) (value : Frame) (command : Command) → answer ≡ own → command_of value ≡ Ok command
-    → (asks_nothing value ≡ true)
-    ⊎ (((answer ≡ left) ⊎ (answer ≡ widens)) ⊎ ((command_of value ≡ Err UnknownCommand) ⊎ (command_of value ≡ Err WrongArguments))) → (own ≡ left) ⊎ (own ≡ widens)
-is_own answer own value command same is (inl nothing) = absurd (true≢false (sym nothing ∙ command_asks value command is))
-is_own answer own value command same is (inr (inl (inl stays))) = inl (sym same ∙ stays)
-is_own answer own value command same is (inr (inl (inr grows))) = inr (sym same ∙ grows)
-is_own answer own value command same is (inr (inr (inl wrong))) = absurd (let none : ⊥ = cc in none)
-is_own answer own value command same is (inr (inr (inr wrong))) = absurd (let none : ⊥ = cc in none)
-
--- what the session answers, and how it is told; a command whose answer is told in other words is heard as it is
-own_told : (start : World) (now : ℕ) (asker : ClientInfo) (becomes : Answer) (p : Party) (value : Frame) (asked kept : Result Command CommandFault) (bytes : List ℕ) (q : Party)
-    → (becomes ≡ left) ⊎ (becomes ≡ widens) → command_of value ≡ asked → (becomes ≡ widens → kept ≡ asked) → heard_as asker.current asked ≡ kept
-    → Answers start now asker becomes p value bytes q → (answer : List ℕ) × Responds start now p kept answer q × Tells becomes asker value answer bytes
-own_told start now asker left p value asked kept bytes q own is same there h =
-    (bytes, subst (λ (k : Result Command CommandFault). Responds start now p k bytes q) (ap (heard_as asker.current) is ∙ there) h, refl)
-own_told start now asker widens p value asked kept bytes q own is same there h = (
-  h.answer,
-  subst (λ (k : Result Command CommandFault). Responds start now p k h.answer q) (is ∙ sym (same refl)) h.turned,
-  (h.told, h.rest, h.first, h.bytes_are),
-)
-own_told start now asker (said answer) p value asked kept bytes q (inl wrong) is same there h = absurd (let none : ⊥ = cc in none)
-own_told start now asker (said answer) p value asked kept bytes q (inr wrong) is same there h = absurd (let none : ⊥ = cc in none)
-own_told start now asker asks_masters p value asked kept bytes q (inl wrong) is same there h = absurd (let none : ⊥ = cc in none)
-own_told start now asker asks_masters p value asked kept bytes q (inr wrong) is same there h = absurd (let none : ⊥ = cc in none)
-own_told start now asker silent p value asked kept bytes q (inl wrong) is same there h = absurd (let none : ⊥ = cc in none)
-own_told start now asker silent p value asked kept bytes q (inr wrong) is same there h = absurd (let none : ⊥ = cc in none)
-
--- no answer to a question is told in other words
-widened_as_it_is : (current : Option ℕ) (command : Command) → own_answer (wording_of (Ok command)) ≡ widens → heard_as current (Ok command) ≡ Ok command
-widened_as_it_is current (IsMasterDownByAddr addr epoch candidate) wrong = absurd (let none : ⊥ = cc in none)
-widened_as_it_is current Ping h = refl
-widened_as_it_is current (GetMasterAddrByName name) h = refl
-widened_as_it_is current Masters h = refl
-widened_as_it_is current (Master name) h = refl
-widened_as_it_is current (Replicas name) h = refl
-widened_as_it_is current (Sentinels name) h = refl
-widened_as_it_is current MyId h = refl
-widened_as_it_is current (CkQuorum name) h = refl
-widened_as_it_is current FlushConfig h = refl
-widened_as_it_is current Subscribe h = refl
+use Rattle.courteous_sessions.specs.Laws.{AnswersOwnAsBefore, HearsAll, HearsNear, HearsFar, AnswersListeners, TakesNoTurn, IsPassedOver, StrangersTakeNoTurn, NothingElseIsTold, NoOtherNoteIsTold}
 
 pub hears_all : HearsAll
 hears_all (IsMasterDownByAddr addr epoch candidate) = refl
@@ -79,6 +37,7 @@ hears_all (Master name) = refl
 hears_all (Replicas name) = refl
 hears_all (Sentinels name) = refl
 hears_all MyId = refl
+hears_all (Failover name) = refl
 hears_all (CkQuorum name) = refl
 hears_all FlushConfig = refl
 hears_all Subscribe = refl
@@ -106,6 +65,7 @@ common_differs (Master name) h e = absurd h
 common_differs (Replicas name) h e = absurd h
 common_differs (Sentinels name) h e = absurd h
 common_differs MyId h e = absurd h
+common_differs (Failover name) h e = absurd h
 common_differs (CkQuorum name) h e = absurd h
 common_differs FlushConfig h e = absurd h
 
@@ -113,15 +73,16 @@ common_differs FlushConfig h e = absurd h
 pub common_turn : (asker : ClientInfo) (l : Listening) (value : Frame) (command : Command) → IsCommon command → is_stranger asker ≡ false → is_listening l ≡ false
     → command_of value ≡ Ok command → channel_turn asker l value ≡ other
 common_turn asker l value command common known quiet is =
-    at_home asker l value known ∙ own_is_other value command l quiet (common_differs command common) is
+    at_home asker l value known ∙ own_is_other value command l quiet (common_differs command common) (known_too value command is)
 
 pub common_answers : (start : World) (now : ℕ) (asker : ClientInfo) (value : Frame) (command : Command) (p : Party) (bytes : List ℕ) (q : Party) → IsCommon command
     → is_stranger asker ≡ false → command_of value ≡ Ok command → Responds start now p (heard_as asker.current (Ok command)) bytes q
     → Answers start now asker (courtesy asker value) p value bytes q
 common_answers start now asker value command p bytes q common known is h =
-    let becomes = common_is_left asker value command known is common in
+    let too = known_too value command is in
+    let becomes = own_is_left asker value command known too in
     subst (λ (a : Answer). Answers start now asker a p value bytes q) (sym becomes)
-    (subst (λ (k : Result Command CommandFault). Responds start now p (heard_as asker.current k) bytes q) (sym is) h)
+    (subst (λ (k : Result Command CommandFault). Responds start now p (heard_as asker.current k) bytes q) (sym too) h)
 
 -- what a value is answered that is none of Pub/Sub's
 by_others : (start : World) (now : ℕ) (g h : Guest) (value : Frame) (bytes : List ℕ) → channel_turn g.asker g.listening value ≡ other → Serves start now g value bytes h
@@ -134,17 +95,11 @@ own_as_before start now g h value command bytes known quiet differs is serves =
     let by = by_others start now g h value bytes none serves in
     let q = by.0 in
     let at = sym (ap (λ (x : Guest). x.party) by.2) in
-    let own = own_answer (wording_of (Ok command)) in
     let becomes = own_is_left g.asker value command known is in
     let kept = subst (λ (a : Answer). Answers start now g.asker a g.party value bytes q) becomes by.1 in
-    let one = is_own (courtesy g.asker value) own value command becomes is (refused_or_left g.asker value known) in
-    let told =
-    own_told start now g.asker own g.party value (Ok command) (heard_as g.asker.current (Ok command)) bytes q one is (widened_as_it_is g.asker.current command) refl kept
-    in
+    let heard = subst (λ (k : Result Command CommandFault). Responds start now g.party (heard_as g.asker.current k) bytes q) is kept in
     let after : h ≡ guest q g.listening g.told g.asker = by.2 ∙ ap (λ (a : ClientInfo). guest q g.listening g.told a) (own_is_same g.asker value command is) in (
-      told.0,
-      subst (λ (x : Party). Responds start now g.party (heard_as g.asker.current (Ok command)) told.0 x) at told.1,
-      told.2,
+      subst (λ (x : Party). Responds start now g.party (heard_as g.asker.current (Ok command)) bytes x) at heard,
       subst (λ (x : Party). h ≡ guest x g.listening g.told g.asker) at after,
     )
 
@@ -171,7 +126,6 @@ passed_over start now g h value bytes none is serves =
 said_is_seen : (start : World) (now : ℕ) (asker : ClientInfo) (answer : Answer) (p : Party) (value : Frame) (bytes : List ℕ) (q : Party) → kind_of answer ≡ Said
     → Answers start now asker answer p value bytes q → q ≡ p
 said_is_seen start now asker left p value bytes q is h = absurd (let no : ⊥ = cc in no)
-said_is_seen start now asker widens p value bytes q is h = absurd (let no : ⊥ = cc in no)
 said_is_seen start now asker (said answer) p value bytes q is h = h.1
 said_is_seen start now asker asks_masters p value bytes q is h = absurd (let no : ⊥ = cc in no)
 said_is_seen start now asker silent p value bytes q is h = h.1

@@ -3,7 +3,7 @@ use Rattle.std.proofs.Common.{◌≡◌, ◌≢◌, ◌⊎◌, ℕ, Bool, true, 
 use Rattle.std.specs.Option.{is_some}
 use Rattle.std.specs.Prelude.{is_err}
 use Rattle.ballot_law.specs.declared.commands.Command.{Command}
-use Rattle.ballot_law.specs.declared.commands.Command.TheVariants.{Ping, IsMasterDownByAddr, GetMasterAddrByName, Masters, Master, Replicas, Sentinels, MyId, CkQuorum, FlushConfig, Subscribe}
+use Rattle.ballot_law.specs.declared.commands.Command.TheVariants.{Ping, IsMasterDownByAddr, GetMasterAddrByName, Masters, Master, Replicas, Sentinels, MyId, CkQuorum, Failover, FlushConfig, Subscribe}
 use Rattle.pubsub.specs.declared.answers.Turn.{Turn}
 use Rattle.pubsub.specs.declared.answers.Turn.TheVariants.{Other as Untouched, Said as Turned}
 use Rattle.pubsub.specs.Answering.{Answer as ChannelAnswer, other, said as confirmed, answer as channel_answer, turn_of, text_of as text_of_turn, listening_after}
@@ -11,8 +11,8 @@ use Rattle.pubsub.specs.Listening.{Listening, is_listening}
 use Rattle.pubsub.proofs.OwnCommands.{subscribe_is_said}
 use Rattle.client_commands.specs.Attendants.{Attendance}
 use Rattle.client_commands.proofs.Strangers.{strangers_are_answered}
-use Rattle.client_commands.specs.Courtesies.{is_stranger, ClientInfo, Answer, left, widens, said, asks_masters, silent, courtesy, asker_after, kind_of, text_of}
-use Rattle.client_commands.specs.declared.courtesies.Courtesy.TheVariants.{Left, Widens, Said, AsksMasters}
+use Rattle.client_commands.specs.Courtesies.{is_stranger, ClientInfo, Answer, left, said, asks_masters, silent, courtesy, asker_after, kind_of, text_of}
+use Rattle.client_commands.specs.declared.courtesies.Courtesy.TheVariants.{Left, Said, AsksMasters}
 use Rattle.client_commands.specs.Lines.{value_at, Answers as Reads}
 use Rattle.client_commands.proofs.LineStreams.{reads_next}
 use Rattle.sentinel_core.specs.declared.serving.fault.ServeFault.{ServeFault}
@@ -20,7 +20,7 @@ use Rattle.sentinel_core.specs.declared.serving.fault.ServeFault.TheVariants.{Ha
 use Rattle.sentinel_core.specs.Serving.Serving.{last_line}
 use Rattle.port_sessions.specs.Talks.{Talk, Party, party, Responds, RespondsAt}
 use Rattle.resp2.specs.declared.command.CommandFault.{CommandFault}
-use Rattle.resp2.specs.Commands.{command_of}
+use Rattle.resp2.specs.Commands.{redis_command_of}
 use Rattle.resp2.specs.declared.framing.fault.FrameFault.{FrameFault}
 use Rattle.resp2.specs.declared.framing.fault.FrameFault.TheVariants.{BadKind, BadLength, BadNumber, MissingEnd, TooLong, TooDeep, TooMany, NoMemory}
 use Rattle.resp2.specs.declared.framing.fault.Unread.TheVariants.{Faulty}
@@ -29,7 +29,7 @@ use Rattle.resp2.specs.Framing.Stream.{Held, reading, ended, bytes_in, Feeds}
 use Rattle.sentinel_cell.specs.declared.view.View.{View}
 use Rattle.sentinel_cell.specs.Histories.{World}
 use Rattle.courteous_sessions.specs.Epochs.{heard_as}
-use Rattle.courteous_sessions.specs.Visits.{Guest, guest, hears_switches, channel_turn, told_after, TellsInfo, TellsWide, Answers, Serves, ServesBy, ServesAll, IsAnswered, IsRefused, IsCut, Breaks, Receives}
+use Rattle.courteous_sessions.specs.Visits.{Guest, guest, hears_switches, channel_turn, told_after, TellsInfo, Answers, Serves, ServesBy, ServesAll, IsAnswered, IsRefused, IsCut, Breaks, Receives}
 use Rattle.courteous_sessions.specs.OnTheWay.{IsIdle, IsReady, IsTuned, IsOnTheWay, IsDone, Steps, Drains, Refuses, guest_of}
 
 -- ---- what the reading of a value and an attendant's turn say
@@ -41,10 +41,9 @@ was_read view (ended fault) value after is h = absurd (let no : ⊥ = cc in no)
 
 module _ (start : World) (now : ℕ) where
   pub left_answered : (asker : ClientInfo) (answer : Answer) (p : Party) (value : Frame) (bytes : List ℕ) (q : Party) → Left ≡ kind_of answer
-      → Responds start now p (heard_as asker.current (command_of value)) bytes q
+      → Responds start now p (heard_as asker.current (redis_command_of value)) bytes q
       → Answers start now asker answer p value bytes q
   left_answered asker left p value bytes q is h = h
-  left_answered asker widens p value bytes q is h = absurd (let no : ⊥ = cc in no)
   left_answered asker (said answer) p value bytes q is h = absurd (let no : ⊥ = cc in no)
   left_answered asker silent p value bytes q is h = absurd (let no : ⊥ = cc in no)
   left_answered asker asks_masters p value bytes q is h = absurd (let no : ⊥ = cc in no)
@@ -52,23 +51,13 @@ module _ (start : World) (now : ℕ) where
   pub said_answered : (asker : ClientInfo) (answer : Answer) (p : Party) (value : Frame) (bytes : List ℕ) → Said ≡ kind_of answer → bytes ≡ text_of answer
       → Answers start now asker answer p value bytes p
   said_answered asker left p value bytes is text = absurd (let no : ⊥ = cc in no)
-  said_answered asker widens p value bytes is text = absurd (let no : ⊥ = cc in no)
   said_answered asker (said answer) p value bytes is text = (text, refl)
   said_answered asker silent p value bytes is text = (text, refl)
   said_answered asker asks_masters p value bytes is text = absurd (let no : ⊥ = cc in no)
 
-  pub wide_answered : (asker : ClientInfo) (answer : Answer) (p : Party) (value : Frame) (bytes : List ℕ) (q : Party) → Widens ≡ kind_of answer → TellsWide start now asker p value bytes q
-      → Answers start now asker answer p value bytes q
-  wide_answered asker left p value bytes q is h = absurd (let no : ⊥ = cc in no)
-  wide_answered asker widens p value bytes q is h = h
-  wide_answered asker (said answer) p value bytes q is h = absurd (let no : ⊥ = cc in no)
-  wide_answered asker silent p value bytes q is h = absurd (let no : ⊥ = cc in no)
-  wide_answered asker asks_masters p value bytes q is h = absurd (let no : ⊥ = cc in no)
-
-  pub asked_answered : (asker : ClientInfo) (answer : Answer) (p : Party) (value : Frame) (bytes : List ℕ) (q : Party) → AsksMasters ≡ kind_of answer → TellsInfo start now p value bytes q
+  pub asked_answered : (asker : ClientInfo) (answer : Answer) (p : Party) (value : Frame) (bytes : List ℕ) (q : Party) → AsksMasters ≡ kind_of answer → TellsInfo start now asker.port.figures p value bytes q
       → Answers start now asker answer p value bytes q
   asked_answered asker left p value bytes q is h = absurd (let no : ⊥ = cc in no)
-  asked_answered asker widens p value bytes q is h = absurd (let no : ⊥ = cc in no)
   asked_answered asker (said answer) p value bytes q is h = absurd (let no : ⊥ = cc in no)
   asked_answered asker silent p value bytes q is h = absurd (let no : ⊥ = cc in no)
   asked_answered asker asks_masters p value bytes q is h = h
@@ -93,6 +82,7 @@ module _ (start : World) (now : ℕ) where
     at None (Ok (Replicas name)) differs r = r.1
     at None (Ok (Sentinels name)) differs r = r.1
     at None (Ok MyId) differs r = r.1
+    at None (Ok (Failover name)) differs r = r.1
     at None (Ok (CkQuorum name)) differs r = r.1
     at None (Ok FlushConfig) differs r = r.1
 
@@ -108,14 +98,14 @@ module _ (start : World) (now : ℕ) where
   heard_otherwise current (Ok (Replicas name)) differs e = let no : ⊥ = cc in no
   heard_otherwise current (Ok (Sentinels name)) differs e = let no : ⊥ = cc in no
   heard_otherwise current (Ok MyId) differs e = let no : ⊥ = cc in no
+  heard_otherwise current (Ok (Failover name)) differs e = let no : ⊥ = cc in no
   heard_otherwise current (Ok (CkQuorum name)) differs e = let no : ⊥ = cc in no
   heard_otherwise current (Ok FlushConfig) differs e = let no : ⊥ = cc in no
 
-  pub answers_alike : (asker : ClientInfo) (answer : Answer) (p : Party) (value : Frame) (bytes : List ℕ) (q : Party) → command_of value ≢ Ok Subscribe → Answers start now asker answer p value bytes q
+  pub answers_alike : (asker : ClientInfo) (answer : Answer) (p : Party) (value : Frame) (bytes : List ℕ) (q : Party) → redis_command_of value ≢ Ok Subscribe → Answers start now asker answer p value bytes q
       → q.listens ≡ p.listens
   answers_alike asker left p value bytes q not h =
-      responds_alike p (heard_as asker.current (command_of value)) bytes q (heard_otherwise asker.current (command_of value) not) h
-  answers_alike asker widens p value bytes q not h = responds_alike p (command_of value) h.answer q not h.turned
+      responds_alike p (heard_as asker.current (redis_command_of value)) bytes q (heard_otherwise asker.current (redis_command_of value) not) h
   answers_alike asker (said answer) p value bytes q not h = ap (λ (x : Party). x.listens) h.1
   answers_alike asker silent p value bytes q not h = ap (λ (x : Party). x.listens) h.1
   answers_alike asker asks_masters p value bytes q not h = responds_alike p (Ok Masters) h.answer q (λ e. let no : ⊥ = cc in no) h.turned
@@ -125,7 +115,7 @@ stranger_or_not : (test : Bool) (given : ChannelAnswer) → elim test as (λ _. 
 stranger_or_not true given h = inl refl
 stranger_or_not false given h = inr h
 
-not_subscribe : (value : Frame) (l : Listening) → channel_answer value l ≡ other → command_of value ≢ Ok Subscribe
+not_subscribe : (value : Frame) (l : Listening) → channel_answer value l ≡ other → redis_command_of value ≢ Ok Subscribe
 not_subscribe value l is asks =
     let given = subscribe_is_said value l asks in
     let clash : other ≡ confirmed given.0 given.1 = sym is ∙ given.2 in
@@ -135,7 +125,6 @@ module _ (start : World) (now : ℕ) where
   -- what a courtesy says takes no turn
   said_alike : (asker : ClientInfo) (answer : Answer) (p : Party) (value : Frame) (bytes : List ℕ) (q : Party) → kind_of answer ≡ Said → Answers start now asker answer p value bytes q → q.listens ≡ p.listens
   said_alike asker left p value bytes q is h = absurd (let no : ⊥ = cc in no)
-  said_alike asker widens p value bytes q is h = absurd (let no : ⊥ = cc in no)
   said_alike asker (said answer) p value bytes q is h = ap (λ (x : Party). x.listens) h.1
   said_alike asker silent p value bytes q is h = ap (λ (x : Party). x.listens) h.1
   said_alike asker asks_masters p value bytes q is h = absurd (let no : ⊥ = cc in no)
@@ -151,8 +140,6 @@ module _ (start : World) (now : ℕ) where
   same_words : (asker : ClientInfo) (value : Frame) (becomes : Answer) (p : Party) (bytes : List ℕ) (q : Party)
       → Answers start now (asker_after asker value) becomes p value bytes q → Answers start now asker becomes p value bytes q
   same_words asker value left p bytes q h = h
-  same_words asker value widens p bytes q h =
-      record { answer = h.answer; turned = h.turned; told = h.told; rest = h.rest; first = h.first; bytes_are = h.bytes_are }
   same_words asker value (said answer) p bytes q h = h
   same_words asker value asks_masters p bytes q h = h
   same_words asker value silent p bytes q h = h

@@ -4,12 +4,12 @@ use Rattle.std.specs.Option.{is_some}
 use Rattle.std.specs.Prelude.{OnOk, is_err}
 use Rattle.pubsub.specs.Listening.{Listening, is_listening}
 use Rattle.client_commands.specs.Attendants.{Attendance, TakesCommon}
+use Rattle.client_commands.specs.declared.port_facts.Figures.{Figures}
 use Rattle.client_commands.specs.Courtesies.{ClientInfo, MonitoredMaster, is_stranger}
 use Rattle.client_commands.proofs.OwnValues.{own_is_same}
 use Rattle.client_commands.specs.Infos.{info}
-use Rattle.client_commands.specs.Wordings.{wide}
 use Rattle.resp2.specs.Asked.{IsCommon}
-use Rattle.resp2.specs.Commands.{command_of}
+use Rattle.resp2.proofs.Switches.{known_too}
 use Rattle.sentinel_core.specs.declared.serving.fault.ServeFault.{ServeFault}
 use Rattle.sentinel_core.specs.declared.serving.fault.ServeFault.TheVariants.{Halted, NoMemory as OutOfMemory}
 use Rattle.port_sessions.specs.Notes.{none_told}
@@ -24,10 +24,8 @@ use Rattle.client_commands.specs.Lines.{value_at, Answers as Reads}
 use Rattle.client_commands.proofs.LineStreams.{value_is_frame}
 use Rattle.sentinel_cell.specs.declared.view.View.{View}
 use Rattle.sentinel_cell.specs.Histories.{World}
-use Rattle.sentinel_rules.specs.Plans.{roster_of}
-use Rattle.ballot_law.specs.Rosters.{size}
 use Rattle.courteous_sessions.specs.Epochs.{heard_as}
-use Rattle.courteous_sessions.specs.Visits.{Guest, guest, masters_of, introduced, TellsInfo, TellsWide, BeginsNotes, Serves, Breaks, Receives}
+use Rattle.courteous_sessions.specs.Visits.{Guest, guest, masters_of, introduced, TellsInfo, BeginsNotes, Serves, Breaks, Receives}
 use Rattle.courteous_sessions.specs.OnTheWay.{IsIdle, IsReady, IsTuned, BeginsWith, IsOnTheWay, IsDone, Drains, Refuses, guest_of}
 use Rattle.courteous_sessions.proofs.Keeping.{common_turn, common_answers}
 use Rattle.courteous_sessions.proofs.Serving.{was_read, served_by_others, value_served, all_served, refused, cut_by, begun, was_received}
@@ -41,13 +39,12 @@ ok_of (Ok x) is h = h
 ok_of (Err e) is h = absurd (true≢false is)
 
 -- the masters were told
-pub introduced_now : (start : World) (knows : Bool) (before after : Attendance) (masters : List MonitoredMaster) (sentinels : ℕ) → knows ≡ false → masters ≡ masters_of start
-    → sentinels ≡ size (roster_of start.plan) → after ≡ record before { asker = record before.asker { masters = masters; sentinels = sentinels } }
+pub introduced_now : (start : World) (knows : Bool) (before after : Attendance) (masters : List MonitoredMaster) → knows ≡ false → masters ≡ masters_of start
+    → after ≡ record before { asker = record before.asker { masters = masters } }
     → after ≡ record before { asker = introduced start knows before.asker }
-introduced_now start true before after masters sentinels is same count told = absurd (true≢false is)
-introduced_now start false before after masters sentinels is same count told =
-    let with = λ (ms : List MonitoredMaster) (n : ℕ). let a : Attendance = record before { asker = record before.asker { masters = ms; sentinels = n } } in a in
-    told ∙ ap (λ (ms : List MonitoredMaster). with ms sentinels) same ∙ ap (λ (n : ℕ). with (masters_of start) n) count
+introduced_now start true before after masters is same told = absurd (true≢false is)
+introduced_now start false before after masters is same told =
+    told ∙ ap (λ (ms : List MonitoredMaster). let a : Attendance = record before { asker = record before.asker { masters = ms } } in a) same
 
 -- where no whole value is held, nothing changes
 reads_none : {V : Type 0} (view : V → Frame) (held after : Held) → held ≡ reading (bytes_in held) → Reads view held (Ok None) after → after ≡ held
@@ -128,7 +125,7 @@ module _ (start : World) (now : ℕ) where
       let value = taken.value in
       let none = common_turn before.asker l value command common plain.0 plain.1 taken.asked in
       let answers = common_answers start now before.asker value command (party v talk.listens) got.0 (party w later.listens) common plain.0 taken.asked got.3 in
-      let known = asker ∙ sym (own_is_same before.asker value command taken.asked) in
+      let known = asker ∙ sym (own_is_same before.asker value command (known_too value command taken.asked)) in
       let serves = served_by_others start now before after l talk later v w value got.0 ready none known told answers in
       let there = subst (λ (x : Listening). Serves start now (guest_of before l talk v) value got.0 (guest_of after x later w)) (sym same) serves in
       let found = ap value_at (ap bytes_in taken.held_is) ∙ taken.found in (
@@ -164,35 +161,21 @@ module _ (start : World) (now : ℕ) where
       (bytes, same ∙ is, cut_by start now stream g before.held bytes (guest_of before l talk v) why a fault)
 
   -- INFO was asked, and SENTINEL MASTERS answered
-  pub info_told : (value : Frame) (p q : Party) (answer text : List ℕ) → Responds start now p (Ok Masters) answer q
-      → (masters : Frame) × BeginsWith answer masters × (text ≡ spelling (info value masters)) → TellsInfo start now p value text q
-  info_told value p q answer text turned told =
+  pub info_told : (figures : Figures) (value : Frame) (p q : Party) (answer text : List ℕ) → Responds start now p (Ok Masters) answer q
+      → (masters : Frame) × BeginsWith answer masters × (text ≡ spelling (info figures value masters)) → TellsInfo start now figures p value text q
+  info_told figures value p q answer text turned told =
       record { answer = answer; turned = turned; told = told.0; rest = told.1.rest; first = told.1.found; bytes_are = told.2 }
 
   -- INFO was asked: the session below answered SENTINEL MASTERS, and what it put out was taken away
-  pub masters_told : (value : Frame) (talk asked left : Talk) (v w : View) (unsent out text : List ℕ)
+  pub masters_told : (figures : Figures) (value : Frame) (talk asked left : Talk) (v w : View) (unsent out text : List ℕ)
       → Responds start now (party v talk.listens) (Ok Masters) asked.unsent (party w asked.listens) × (asked.held ≡ []) → asked.ended ≡ None
-      → left ≡ record asked { unsent = [] } → (masters : Frame) × BeginsWith asked.unsent masters × (text ≡ spelling (info value masters)) → out ≡ unsent ++ text
-      → (more : List ℕ) × (out ≡ unsent ++ more) × IsIdle left × TellsInfo start now (party v talk.listens) value more (party w left.listens)
-  masters_told value talk asked left v w unsent out text turned goes_on is_left told is_out =
+      → left ≡ record asked { unsent = [] } → (masters : Frame) × BeginsWith asked.unsent masters × (text ≡ spelling (info figures value masters)) → out ≡ unsent ++ text
+      → (more : List ℕ) × (out ≡ unsent ++ more) × IsIdle left × TellsInfo start now figures (party v talk.listens) value more (party w left.listens)
+  masters_told figures value talk asked left v w unsent out text turned goes_on is_left told is_out =
       let p = party v talk.listens in
       let since : asked.listens ≡ left.listens = sym (ap (λ (t : Talk). t.listens) is_left) in
       let answer = subst (λ (x : Option ℕ). Responds start now p (Ok Masters) asked.unsent (party w x)) since turned.0 in
-      (text, is_out, idle_again asked left is_left turned.1 goes_on, info_told value p (party w left.listens) asked.unsent text answer told)
-
-  -- the session below answered a value, whose answer is told with more fields, and what it put out was taken away
-  pub wide_told : (asker : ClientInfo) (value : Frame) (talk asked left : Talk) (v w : View) (unsent out text : List ℕ)
-      → Responds start now (party v talk.listens) (command_of value) asked.unsent (party w asked.listens) × (asked.held ≡ []) → asked.ended ≡ None
-      → left ≡ record asked { unsent = [] } → (answer : Frame) × BeginsWith asked.unsent answer × (text ≡ spelling (wide asker value answer)) → out ≡ unsent ++ text
-      → (more : List ℕ) × (out ≡ unsent ++ more) × IsIdle left × TellsWide start now asker (party v talk.listens) value more (party w left.listens)
-  wide_told asker value talk asked left v w unsent out text turned goes_on is_left told is_out =
-      let p = party v talk.listens in
-      let since : asked.listens ≡ left.listens = sym (ap (λ (t : Talk). t.listens) is_left) in
-      let answer = subst (λ (x : Option ℕ). Responds start now p (command_of value) asked.unsent (party w x)) since turned.0 in
-      let wide_answer : TellsWide start now asker p value text (party w left.listens) =
-      record { answer = asked.unsent; turned = answer; told = told.0; rest = told.1.rest; first = told.1.found; bytes_are = told.2 }
-      in
-      (text, is_out, idle_again asked left is_left turned.1 goes_on, wide_answer)
+      (text, is_out, idle_again asked left is_left turned.1 goes_on, info_told figures value p (party w left.listens) asked.unsent text answer told)
 
   -- it answered a value, and its answer was taken away as it is
   pub handed_on : (command : Result Command CommandFault) (talk asked left : Talk) (v w : View) (unsent out : List ℕ)

@@ -4,7 +4,8 @@ use Rattle.std.specs.Option.{is_some}
 use Rattle.ballot_law.specs.declared.messages.Note.{Note}
 use Rattle.ballot_law.specs.Rosters.{Roster}
 use Rattle.pubsub.specs.declared.channel.Event.{Event}
-use Rattle.pubsub.specs.Listening.{is_listening}
+use Rattle.pubsub.specs.Listening.{Listening, is_listening}
+use Rattle.client_commands.specs.Ports.{PortFacts, no_port}
 use Rattle.client_commands.specs.Courtesies.{ClientInfo, is_stranger}
 use Rattle.sentinel_core.specs.declared.serving.fault.ServeFault.{ServeFault}
 use Rattle.port_sessions.specs.Notes.{none_told, is_due, Notifies}
@@ -20,7 +21,8 @@ use Rattle.courteous_sessions.specs.declared.client_session.ClientSession.TheVar
 
 -- what is known of a connection at its beginning
 abbrev pub newcomer : (id : ℕ) → ClientInfo
-newcomer id = record { id = id; name = []; listens = false; masters = []; sentinels = 0; password = None; admitted = false; current = None }
+newcomer id =
+    record { id = id; name = []; listens = false; masters = []; password = None; admitted = false; current = None; port = no_port }
 
 -- a session with courtesies to which no bytes came
 abbrev pub arrived : (id : ℕ) → Visit
@@ -47,6 +49,29 @@ knowing visit epoch = record visit { asker = record visit.asker { current = Some
 abbrev pub knowing_epoch : ClientSession → (epoch : ℕ) → ClientSession
 knowing_epoch (Plain talk) epoch = Plain talk
 knowing_epoch (Courteous visit) epoch = Courteous (knowing visit epoch)
+
+-- one that knows this of its port; without courtesies nothing is known of it
+abbrev pub knowing_of : Visit → PortFacts → Visit
+knowing_of visit port = record visit { asker = record visit.asker { port = port } }
+
+abbrev pub knowing_port : ClientSession → PortFacts → ClientSession
+knowing_port (Plain talk) port = Plain talk
+knowing_port (Courteous visit) port = Courteous (knowing_of visit port)
+
+-- what it knew before, or what one without courtesies is told
+abbrev pub port_before : ClientSession → PortFacts → PortFacts
+port_before (Plain talk) port = port
+port_before (Courteous visit) port = visit.asker.port
+
+-- the name that its client gave the connection
+abbrev pub name_of : ClientSession → List ℕ
+name_of (Plain talk) = []
+name_of (Courteous visit) = visit.asker.name
+
+-- to what it listens, where that is counted
+abbrev pub listening_of : ClientSession → Listening
+listening_of (Plain talk) = unsubscribed
+listening_of (Courteous visit) = visit.listening
 
 -- one that was told a current epoch or none
 abbrev pub informed : ClientSession → (current : Option ℕ) → ClientSession

@@ -10,30 +10,22 @@ use Rattle.pubsub.specs.declared.channel.Event.{Event}
 use Rattle.pubsub.specs.Answering.{other, said as confirmed, answer as channel_answer}
 use Rattle.pubsub.specs.Listening.{Listening, is_listening}
 use Rattle.pubsub.specs.Telling.{channel_name, hears}
-use Rattle.client_commands.specs.Courtesies.{ClientInfo, Answer, widens, said, silent, is_stranger, wording_of, own_answer, courtesy}
-use Rattle.client_commands.specs.Wordings.{wide}
+use Rattle.client_commands.specs.Courtesies.{said, silent, is_stranger, courtesy}
 use Rattle.port_sessions.specs.Talks.{Responds}
-use Rattle.resp2.specs.Commands.{command_of}
+use Rattle.resp2.specs.Commands.{redis_command_of}
 use Rattle.resp2.specs.Framing.Frame.{Frame, FrameList, no_frames, spelling, spellings}
-use Rattle.resp2.specs.Framing.Reading.{frame_at}
 use Rattle.sentinel_cell.specs.Histories.{World}
 use Rattle.courteous_sessions.specs.Epochs.{is_far, heard}
 use Rattle.courteous_sessions.specs.Events.{told_of, event_told}
 use Rattle.courteous_sessions.specs.Visits.{Guest, guest, hears_switches, channel_turn, Serves, IsAnswered}
 
--- a Sentinel's own answer as it is told: the first value of it in redis-sentinel's words, where it is told so, and else as it is
-abbrev pub Tells : Answer → ClientInfo → (value : Frame) → (answer bytes : List ℕ) → Type 0
-Tells widens asker value answer bytes = (told : Frame) × (rest : List ℕ) × (frame_at answer ≡ Ok (told, rest)) × (bytes ≡ spelling (wide asker value told))
-Tells becomes asker value answer bytes = bytes ≡ answer
-
 -- Where no password is wanted that the client didn't give, and the connection doesn't listen, a command of the Sentinel's rules but SUBSCRIBE is answered as without
--- courtesies, as it is heard, five of them in other words, and nothing else is known of the connection than before
+-- courtesies, as it is heard, and nothing else is known of the connection than before
 abbrev pub AnswersOwnAsBefore : Type 0
 AnswersOwnAsBefore =
     (start : World) (now : ℕ) (g h : Guest) (value : Frame) (command : Command) (bytes : List ℕ)
-    → is_stranger g.asker ≡ false → is_listening g.listening ≡ false → command ≢ Subscribe → command_of value ≡ Ok command → Serves start now g value bytes h
-    → (answer : List ℕ) × Responds start now g.party (Ok (heard g.asker.current command)) answer h.party × Tells (own_answer (wording_of (Ok command))) g.asker value answer bytes
-    × (h ≡ guest h.party g.listening g.told g.asker)
+    → is_stranger g.asker ≡ false → is_listening g.listening ≡ false → command ≢ Subscribe → redis_command_of value ≡ Ok command → Serves start now g value bytes h
+    → Responds start now g.party (Ok (heard g.asker.current command)) bytes h.party × (h ≡ guest h.party g.listening g.told g.asker)
 
 -- where no current epoch was told, each command is heard as it is
 abbrev pub HearsAll : Type 0
@@ -53,7 +45,7 @@ HearsFar = (current epoch : ℕ) (addr : Addr) (candidate : Option RunId) → is
 abbrev pub AnswersListeners : Type 0
 AnswersListeners =
     (start : World) (now : ℕ) (g h : Guest) (value : Frame) (command : Command) (bytes : List ℕ)
-    → is_stranger g.asker ≡ false → is_listening g.listening ≡ true → command_of value ≡ Ok command → Serves start now g value bytes h
+    → is_stranger g.asker ≡ false → is_listening g.listening ≡ true → redis_command_of value ≡ Ok command → Serves start now g value bytes h
     → (answers : FrameList) × (after : Listening) × (channel_answer value g.listening ≡ confirmed answers after) × (bytes ≡ spellings answers) × (h.listening ≡ after)
 
 -- a value that Pub/Sub doesn't answer and whose answer a courtesy tells is answered by that alone, and its seat sees nothing

@@ -1,21 +1,21 @@
 -- What a client is answered whose session has courtesies, and how its session ends.
-use Rattle.std.specs.Prelude.{◌≡◌, ◌++◌, ◌∷◌, ℕ, Bool, true, false, Option, None, Some, List, [], Result, Ok, Err, map}
+use Rattle.std.specs.Prelude.{◌≡◌, ◌++◌, ◌∷◌, ℕ, Bool, true, false, Option, None, Some, List, [], Result, Ok, Err, map, length}
 use Rattle.ballot_law.specs.declared.commands.Command.TheVariants.{Masters, Subscribe}
-use Rattle.ballot_law.specs.Rosters.{MasterPlan, size}
+use Rattle.ballot_law.specs.Rosters.{MasterPlan}
 use Rattle.pubsub.specs.declared.channel.Channel.TheVariants.{SwitchMaster}
 use Rattle.pubsub.specs.Answering.{Answer as ChannelAnswer, other, said as confirmed, answer as channel_answer}
 use Rattle.pubsub.specs.Listening.{Listening, is_listening}
 use Rattle.pubsub.specs.Telling.{channel_name, hears}
-use Rattle.client_commands.specs.Courtesies.{ClientInfo, MonitoredMaster, Answer, left, widens, said, asks_masters, silent, courtesy, asker_after, is_stranger}
+use Rattle.client_commands.specs.declared.port_facts.Figures.{Figures}
+use Rattle.client_commands.specs.Courtesies.{ClientInfo, MonitoredMaster, Answer, left, said, asks_masters, silent, courtesy, asker_after, is_stranger}
 use Rattle.client_commands.specs.Infos.{info}
 use Rattle.client_commands.specs.Lines.{Reads, Holds}
-use Rattle.client_commands.specs.Wordings.{wide}
 use Rattle.sentinel_core.specs.declared.serving.fault.ServeFault.{ServeFault}
 use Rattle.sentinel_core.specs.declared.serving.fault.ServeFault.TheVariants.{Frame as FaultyFrame, Read, Write, Halted, NoMemory}
 use Rattle.sentinel_core.specs.Serving.Serving.{last_line}
 use Rattle.port_sessions.specs.Notes.{none_told}
 use Rattle.port_sessions.specs.Talks.{Party, party, Responds}
-use Rattle.resp2.specs.Commands.{command_of}
+use Rattle.resp2.specs.Commands.{redis_command_of}
 use Rattle.resp2.specs.declared.framing.fault.FrameFault.{FrameFault}
 use Rattle.resp2.specs.Framing.Frame.{Frame, spelling, spellings}
 use Rattle.resp2.specs.Framing.Reading.{frame_at}
@@ -39,16 +39,16 @@ pub record Visit : Type 0 where
 
 -- a master of a roster, as a connection knows it
 abbrev pub monitored : MasterPlan → MonitoredMaster
-monitored master = record { name = master.name; quorum = master.quorum }
+monitored master = record { name = master.name; nodes = length master.nodes }
 
 -- the masters of a Sentinel
 abbrev pub masters_of : World → List MonitoredMaster
 masters_of start = map monitored (roster_of start.plan).masters
 
--- what is known of a connection once it was told the masters of this Sentinel and how many Sentinels there are
+-- what is known of a connection once it was told the masters of this Sentinel
 abbrev pub introduced : World → (knows_masters : Bool) → ClientInfo → ClientInfo
 introduced start true asker = asker
-introduced start false asker = record asker { masters = masters_of start; sentinels = size (roster_of start.plan) }
+introduced start false asker = record asker { masters = masters_of start }
 
 -- what an answer rests on: what the seat has seen and since which entry the session below listens to notes, what is known of the connection, to what it listens, and
 -- of each master the epoch of the configuration that it was told last
@@ -85,31 +85,21 @@ told_after true told = told
 told_after false told = none_told
 
 module _ (start : World) (now : ℕ) where
-  -- INFO is answered by the first value that the Sentinel answers to SENTINEL MASTERS
-  pub record TellsInfo (p : Party) (value : Frame) (bytes : List ℕ) (q : Party) : Type 0 where
+  -- INFO is answered by what the port counts and the first value that the Sentinel answers to SENTINEL MASTERS
+  pub record TellsInfo (figures : Figures) (p : Party) (value : Frame) (bytes : List ℕ) (q : Party) : Type 0 where
     pub answer : List ℕ
     pub turned : Responds start now p (Ok Masters) answer q
     pub told : Frame
     pub rest : List ℕ
     pub first : frame_at answer ≡ Ok (told, rest)
-    pub bytes_are : bytes ≡ spelling (info value told)
-
-  -- the answer of the session without courtesies, the first value of it told in redis-sentinel's words
-  pub record TellsWide (asker : ClientInfo) (p : Party) (value : Frame) (bytes : List ℕ) (q : Party) : Type 0 where
-    pub answer : List ℕ
-    pub turned : Responds start now p (command_of value) answer q
-    pub told : Frame
-    pub rest : List ℕ
-    pub first : frame_at answer ≡ Ok (told, rest)
-    pub bytes_are : bytes ≡ spelling (wide asker value told)
+    pub bytes_are : bytes ≡ spelling (info figures value told)
 
   -- The answer to a value by what becomes of it. One that is left is answered by the session without courtesies, a question as it is heard; a courtesy takes no turn, and
   -- changes nothing of what the seat has seen
   abbrev pub Answers : ClientInfo → Answer → Party → Frame → List ℕ → Party → Type 0
-  Answers asker left p value bytes q = Responds start now p (heard_as asker.current (command_of value)) bytes q
-  Answers asker widens p value bytes q = TellsWide asker p value bytes q
+  Answers asker left p value bytes q = Responds start now p (heard_as asker.current (redis_command_of value)) bytes q
   Answers asker (said answer) p value bytes q = (bytes ≡ spelling answer) × (q ≡ p)
-  Answers asker asks_masters p value bytes q = TellsInfo p value bytes q
+  Answers asker asks_masters p value bytes q = TellsInfo asker.port.figures p value bytes q
   Answers asker silent p value bytes q = (bytes ≡ []) × (q ≡ p)
 
   -- the session below begins to listen to notes where it doesn't: it is asked SUBSCRIBE, whose answer isn't told

@@ -1,11 +1,12 @@
 //! A session with courtesies or without.
 
 ghost use Rattle.std.specs.Prelude.{◌≡◌, ◌≤◌, ◌<◌, ◌↔◌, [], IsTrue, length, drop};
-ghost use Rattle.courteous_sessions.specs.Clients.{begun, unsent_of, held_of, listens_of, owes_password, wanting_password, with_unsent, Takes, NotifiesClient, TellsClient, knowing_epoch};
+ghost use Rattle.courteous_sessions.specs.Clients.{begun, unsent_of, held_of, listens_of, owes_password, wanting_password, with_unsent, Takes, NotifiesClient, TellsClient, knowing_epoch, port_before, knowing_port, name_of, listening_of};
 
 use crate::courteous_session::CourteousSession;
 use crate::epochs::FarRequest;
 use ballot_law::{NoMemory, Note, Roster, Text};
+use client_commands::PortFacts;
 use port_sessions::Session;
 use pubsub::Event;
 use sentinel_cell::{Seat, SharedSentinel};
@@ -64,6 +65,50 @@ impl ClientSession {
         match self {
             ClientSession::Plain(_) => None,
             ClientSession::Courteous(session) => session.take_far(),
+        }
+    }
+
+    /// How many values a session with courtesies answered since this was asked; none of one without.
+    pub fn take_answered(&mut self) -> u64
+        ensures { self.new ≡ self.old }
+    {
+        match self {
+            ClientSession::Plain(_) => 0,
+            ClientSession::Courteous(session) => session.take_answered(),
+        }
+    }
+
+    /// Has a session with courtesies know this of its port, as `CourteousSession::know_port`: what it knew before. One
+    /// without gives it back.
+    pub fn know_port(&mut self, port: PortFacts) -> PortFacts
+        ensures before { result ≡ port_before self.old port }
+        ensures now { self.new ≡ knowing_port self.old port }
+    {
+        match self {
+            ClientSession::Plain(_) => port,
+            ClientSession::Courteous(session) => session.know_port(port),
+        }
+    }
+
+    /// The name that its client gave the connection; empty where it gave none.
+    pub fn name(&self) -> &[u8]
+        ensures { result.now ≡ name_of self.now }
+    {
+        match self {
+            ClientSession::Plain(_) => &[],
+            ClientSession::Courteous(session) => session.name(),
+        }
+    }
+
+    /// To how many channels a session with courtesies listens, and for how many patterns; of one without none is
+    /// counted.
+    pub fn subscriptions(&self) -> (u32, u32)
+        ensures channels { result.0 ≡ length (listening_of self.now).channels }
+        ensures patterns { result.1 ≡ length (listening_of self.now).patterns }
+    {
+        match self {
+            ClientSession::Plain(_) => (0, 0),
+            ClientSession::Courteous(session) => session.subscriptions(),
         }
     }
 

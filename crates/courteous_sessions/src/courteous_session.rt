@@ -3,12 +3,13 @@
 ghost use Rattle.std.specs.Prelude.{◌≡◌, ◌≤◌, ◌<◌, ◌↔◌, ◌++◌, ℕ, List, [], None, Some, Err, true, OnOk, OnErr, IfErr, IfSome, IsTrue, length, drop};
 ghost use Rattle.pubsub.specs.Listening.{is_listening};
 ghost use Rattle.client_commands.specs.Courtesies.{is_stranger};
-ghost use Rattle.courteous_sessions.specs.Clients.{arrived, guest_at, guest_of_visit, wanting, NotifiesVisit, TellsVisit, knowing};
+ghost use Rattle.courteous_sessions.specs.Clients.{arrived, guest_at, guest_of_visit, wanting, NotifiesVisit, TellsVisit, knowing, knowing_of};
 ghost use Rattle.courteous_sessions.specs.Visits.{unsubscribed, Receives};
 
 use crate::epochs::FarRequest;
 use crate::exchange::Exchange;
 use ballot_law::{NoMemory, Note, Roster, Text};
+use client_commands::PortFacts;
 use pubsub::Event;
 use sentinel_cell::{Seat, SharedSentinel};
 use sentinel_conf::ConfStore;
@@ -85,6 +86,39 @@ impl CourteousSession {
         ensures { self.new ≡ self.old }
     {
         self.exchange.take_far()
+    }
+
+    /// How many values were answered since this was asked.
+    pub fn take_answered(&mut self) -> u64
+        ensures { self.new ≡ self.old }
+    {
+        self.exchange.take_answered()
+    }
+
+    /// Has it know this of its port, by which INFO and CLIENT LIST are answered from then on: what it knew before, with
+    /// the places of the clients that CLIENT KILL named meanwhile. In the beginning it knows of no client.
+    pub fn know_port(&mut self, port: PortFacts) -> PortFacts
+        ensures before { result ≡ self.old.asker.port }
+        ensures now { self.new ≡ knowing_of self.old port }
+    {
+        self.exchange.know_port(port)
+    }
+
+    /// The name that its client gave the connection; empty where it gave none.
+    pub fn name(&self) -> &[u8]
+        ensures { result.now ≡ self.now.asker.name }
+    {
+        self.exchange.attendant.name()
+    }
+
+    /// To how many channels it listens, and for how many patterns.
+    pub fn subscriptions(&self) -> (u32, u32)
+        ensures channels { result.0 ≡ length self.now.listening.channels }
+        ensures patterns { result.1 ≡ length self.now.listening.patterns }
+    {
+        let listening = &self.exchange.subscriptions;
+        let (channels, patterns) = (listening.channels().len(), listening.patterns().len());
+        (channels as u32, patterns as u32)
     }
 
     /// Takes the next piece of what the client sends, of any length, at a reading of the clock in milliseconds, and

@@ -7,7 +7,6 @@ ghost use Rattle.client_commands.specs.Courtesies.{Answer, is_stranger, kind_of,
 ghost use Rattle.port_sessions.specs.Notes.{none_told};
 ghost use Rattle.port_sessions.specs.Talks.{party, Responds};
 ghost use Rattle.client_commands.specs.Infos.{info};
-ghost use Rattle.client_commands.specs.Wordings.{wide};
 ghost use Rattle.resp2.specs.Asked.{IsCommon};
 ghost use Rattle.ballot_law.specs.Limits.{IsWithin};
 ghost use Rattle.resp2.specs.Framing.Frame.{Frame, view, spelling, HasLines, IsFrame};
@@ -15,17 +14,17 @@ ghost use Rattle.resp2.specs.Framing.Stream.{reading, held_size, bytes_in};
 ghost use Rattle.courteous_sessions.specs.Clients.{newcomer};
 ghost use Rattle.courteous_sessions.specs.Epochs.{heard_as};
 ghost use Rattle.courteous_sessions.specs.OnTheWay.{IsIdle, IsReady, IsOnTheWay, IsSameAsker, Steps, Drains, Refuses, BeginsWith, guest_of};
-ghost use Rattle.courteous_sessions.specs.Visits.{Guest, guest, unsubscribed, channel_turn, introduced, TellsInfo, TellsWide, Answers, Serves, Receives};
+ghost use Rattle.courteous_sessions.specs.Visits.{Guest, guest, unsubscribed, channel_turn, introduced, TellsInfo, Answers, Serves, Receives};
 ghost use Rattle.pubsub.specs.Answering.{other};
 
-use crate::epochs::{FarRequest, far_request, heard_as};
+use crate::epochs::{FarRequest, far_request, heard_as, is_plain};
 use crate::questions::{ask, first_value, monitored_by};
 use ballot_law::{Command, NoMemory, Text};
 use bytes::BytesMut;
-use client_commands::{ClientInfo, CommandReader, Courtesy};
+use client_commands::{ClientInfo, CommandReader, Courtesy, Figures, PortFacts};
 use port_sessions::Session;
 use pubsub::Subscriptions;
-use resp2::{CommandFault, FrameFault, Value, command_of};
+use resp2::{CommandFault, FrameFault, Value, redis_command_of};
 use sentinel_cell::{Seat, SharedSentinel};
 use sentinel_conf::ConfStore;
 use sentinel_core::ServeFault;
@@ -42,8 +41,9 @@ const ROOM_KEPT: usize = 16_384;
 /// and the answers that aren't sent yet.
 ///
 /// The session is asked commands alone, so it holds no bytes. It listens to notes where the connection hears of new
-/// addresses. `knows_masters` is whether the attendant was told the names of the Sentinel's masters, and `far` the last
-/// request for a vote whose epoch was too far above the Sentinel's.
+/// addresses. `knows_masters` is whether the attendant was told the names of the Sentinel's masters, `far` the last
+/// request for a vote whose epoch was too far above the Sentinel's, and `answered` how many values were answered since
+/// that was asked.
 #[derive(Drop)]
 pub(crate) struct Exchange {
     pub(crate) alloc: Global,
@@ -53,6 +53,7 @@ pub(crate) struct Exchange {
     pub(crate) unsent: BytesMut,
     pub(crate) knows_masters: bool,
     pub(crate) far: Option<FarRequest>,
+    pub(crate) answered: u64,
 }
 
 /// What is known of a connection with this number at its beginning.
@@ -64,10 +65,10 @@ fn newcomer(alloc: Global, id: u64) -> ClientInfo
         name: Text::from_vec(Vec::new(alloc)),
         listens: false,
         masters: Vec::new(alloc),
-        sentinels: 0,
         password: None,
         admitted: false,
         current: None,
+        port: PortFacts::of(alloc, Figures::none()),
     }
 }
 
@@ -100,6 +101,7 @@ impl Exchange {
             unsent: BytesMut::new(alloc),
             knows_masters: false,
             far: None,
+            answered: 0,
         }
     }
 
@@ -190,6 +192,30 @@ impl Exchange {
         self.far.take()
     }
 
+    /// How many values were answered since this was asked.
+    pub(crate) fn take_answered(&mut self) -> u64
+        ensures attendant { self.new.attendant ≡ self.old.attendant }
+        ensures session { self.new.session ≡ self.old.session }
+        ensures unsent { self.new.unsent ≡ self.old.unsent }
+        ensures kept { (self.new.knows_masters ≡ self.old.knows_masters) × (self.new.subscriptions ≡ self.old.subscriptions) }
+        ensures count { result ≡ self.old.answered }
+    {
+        let answered = self.answered;
+        self.answered = 0;
+        answered
+    }
+
+    /// Has it know this of its port: what it knew before.
+    pub(crate) fn know_port(&mut self, port: PortFacts) -> PortFacts
+        ensures attendant { self.new.attendant ≡ record self.old.attendant { asker = record self.old.attendant.asker { port = port } } }
+        ensures session { self.new.session ≡ self.old.session }
+        ensures unsent { self.new.unsent ≡ self.old.unsent }
+        ensures kept { (self.new.knows_masters ≡ self.old.knows_masters) × (self.new.subscriptions ≡ self.old.subscriptions) }
+        ensures before { result ≡ self.old.attendant.asker.port }
+    {
+        self.attendant.know_port(port)
+    }
+
     /// The connection ends: what is held is dropped, and it listens to nothing more.
     pub(crate) fn close(&mut self)
         ensures ready { IsReady self.new.attendant self.new.subscriptions self.new.session }
@@ -244,8 +270,7 @@ impl Exchange {
         }
         match monitored_by(self.alloc, cell.roster()) {
             Ok(masters) => {
-                let sentinels = cell.roster().sentinels().len();
-                self.attendant.note_masters(masters, sentinels);
+                self.attendant.note_masters(masters);
                 self.knows_masters = true;
                 Ok(())
             }
@@ -270,6 +295,37 @@ impl Exchange {
         heard_as(current, asked)
     }
 
+    /// Has the session below answer a command as it is heard, or a value that is none for this reason.
+    fn ask_heard<S: ConfStore, R: Wait>(
+        &mut self,
+        rt: &R,
+        cell: &SharedSentinel<S>,
+        seat: &mut Seat,
+        now: u64,
+        asked: &Result<Command, CommandFault>,
+    ) -> Result<(), ServeFault>
+        requires own { seat.old.cell ≡ cell.now.id }
+        requires idle { IsIdle self.old.session }
+        requires within { IfOk asked.now IsWithin }
+        ensures own { seat.new.cell ≡ seat.old.cell }
+        ensures answered { OnOk result (Responds cell.now.start now (party seat.old.view self.old.session.listens)
+            (heard_as self.old.attendant.asker.current asked.now) self.new.session.unsent (party seat.new.view self.new.session.listens)
+            × (self.new.session.held ≡ [])) }
+        ensures goes_on { OnOk result (self.new.session.ended ≡ None) }
+        ensures told { self.new.session.told ≡ self.old.session.told }
+        ensures kept { (self.new.attendant ≡ self.old.attendant) × (self.new.unsent ≡ self.old.unsent)
+            × (self.new.knows_masters ≡ self.old.knows_masters) × (self.new.subscriptions ≡ self.old.subscriptions) }
+        ensures fault { IfErr result (λ fault. (fault ≡ ServeFault.Halted) ⊎ (fault ≡ ServeFault.NoMemory)) }
+    {
+        if is_plain(self.attendant.current(), asked) {
+            ask(rt, cell, seat, now, &mut self.session, asked)?;
+            return Ok(());
+        }
+        let heard = self.hear(asked);
+        ask(rt, cell, seat, now, &mut self.session, &heard)?;
+        Ok(())
+    }
+
     /// Has the session answer a command as it is heard, or a value that is none for this reason.
     fn hand_on<S: ConfStore, R: Wait>(
         &mut self,
@@ -292,8 +348,7 @@ impl Exchange {
         ensures kept { (self.new.attendant ≡ self.old.attendant) × (self.new.knows_masters ≡ self.old.knows_masters)
             × (self.new.subscriptions ≡ self.old.subscriptions) }
     {
-        let heard = self.hear(asked);
-        ask(rt, cell, seat, now, &mut self.session, &heard)?;
+        self.ask_heard(rt, cell, seat, now, asked)?;
         self.take_answers()
     }
 
@@ -310,7 +365,8 @@ impl Exchange {
         requires idle { IsIdle self.old.session }
         ensures own { seat.new.cell ≡ seat.old.cell }
         ensures answered { OnOk result ((more : List ℕ) × (self.new.unsent.items ≡ self.old.unsent.items ++ more) × IsIdle self.new.session
-            × TellsInfo cell.now.start now (party seat.old.view self.old.session.listens) (view value.now) more (party seat.new.view self.new.session.listens)) }
+            × TellsInfo cell.now.start now self.old.attendant.asker.port.figures (party seat.old.view self.old.session.listens) (view value.now) more
+            (party seat.new.view self.new.session.listens)) }
         ensures same { IsSameAsker self.old.attendant self.new.attendant }
         ensures told { self.new.session.told ≡ self.old.session.told }
         ensures err { OnErr result (self.new.unsent.items ≡ self.old.unsent.items) }
@@ -329,7 +385,7 @@ impl Exchange {
     /// Has the attendant's text be the answer to INFO, by the answer that the session has to SENTINEL MASTERS.
     fn inform(&mut self, value: &Value) -> Result<(), NoMemory>
         ensures text { OnOk result ((masters : Frame) × BeginsWith self.old.session.unsent masters
-            × (self.new.attendant.text ≡ spelling (info (view value.now) masters))) }
+            × (self.new.attendant.text ≡ spelling (info self.old.attendant.asker.port.figures (view value.now) masters))) }
         ensures asker { self.new.attendant.asker ≡ self.old.attendant.asker }
         ensures held { self.new.attendant.held ≡ self.old.attendant.held }
         ensures session { self.new.session ≡ self.old.session }
@@ -338,50 +394,6 @@ impl Exchange {
     {
         let masters = first_value(self.alloc, self.session.unsent())?;
         self.attendant.inform(value, &masters)
-    }
-
-    /// Answers a value by what the session answers to it, told in redis-sentinel's words.
-    fn tell_wide<S: ConfStore, R: Wait>(
-        &mut self,
-        rt: &R,
-        cell: &SharedSentinel<S>,
-        seat: &mut Seat,
-        now: u64,
-        value: &Value,
-    ) -> Result<(), ServeFault>
-        requires own { seat.old.cell ≡ cell.now.id }
-        requires idle { IsIdle self.old.session }
-        ensures own { seat.new.cell ≡ seat.old.cell }
-        ensures answered { OnOk result ((more : List ℕ) × (self.new.unsent.items ≡ self.old.unsent.items ++ more) × IsIdle self.new.session
-            × TellsWide cell.now.start now self.old.attendant.asker (party seat.old.view self.old.session.listens) (view value.now) more
-            (party seat.new.view self.new.session.listens)) }
-        ensures same { IsSameAsker self.old.attendant self.new.attendant }
-        ensures told { self.new.session.told ≡ self.old.session.told }
-        ensures err { OnErr result (self.new.unsent.items ≡ self.old.unsent.items) }
-        ensures fault { IfErr result (λ fault. (fault ≡ ServeFault.Halted) ⊎ (fault ≡ ServeFault.NoMemory)) }
-        ensures kept { (self.new.knows_masters ≡ self.old.knows_masters) × (self.new.subscriptions ≡ self.old.subscriptions) }
-    {
-        let asked = command_of(value);
-        ask(rt, cell, seat, now, &mut self.session, &asked)?;
-        if self.widen(value).is_err() {
-            return Err(ServeFault::NoMemory);
-        }
-        self.drop_answers();
-        put_out(&mut self.unsent, self.attendant.text())
-    }
-
-    /// Has the attendant's text be the answer to the value, by the answer that the session has to it.
-    fn widen(&mut self, value: &Value) -> Result<(), NoMemory>
-        ensures text { OnOk result ((answer : Frame) × BeginsWith self.old.session.unsent answer
-            × (self.new.attendant.text ≡ spelling (wide self.old.attendant.asker (view value.now) answer))) }
-        ensures asker { self.new.attendant.asker ≡ self.old.attendant.asker }
-        ensures held { self.new.attendant.held ≡ self.old.attendant.held }
-        ensures session { self.new.session ≡ self.old.session }
-        ensures unsent { self.new.unsent ≡ self.old.unsent }
-        ensures kept { (self.new.knows_masters ≡ self.old.knows_masters) × (self.new.subscriptions ≡ self.old.subscriptions) }
-    {
-        let answer = first_value(self.alloc, self.session.unsent())?;
-        self.attendant.widen(value, &answer)
     }
 
     /// Puts out the line of a frame's fault, and gives the fault that ends the session.
@@ -424,8 +436,7 @@ impl Exchange {
         ensures kept { (self.new.knows_masters ≡ self.old.knows_masters) × (self.new.subscriptions ≡ self.old.subscriptions) }
     {
         match kind {
-            Courtesy::Left => self.hand_on(rt, cell, seat, now, &command_of(value)),
-            Courtesy::Widens => self.tell_wide(rt, cell, seat, now, value),
+            Courtesy::Left => self.hand_on(rt, cell, seat, now, &redis_command_of(value)),
             Courtesy::Said => put_out(&mut self.unsent, self.attendant.text()),
             Courtesy::AsksMasters => self.tell_info(rt, cell, seat, now, value),
         }
@@ -559,7 +570,7 @@ impl Exchange {
     {
         loop {
             match self.answer_next(rt, cell, seat, now) {
-                Ok(true) => {}
+                Ok(true) => self.answered = self.answered.saturating_add(1),
                 Ok(false) => return Ok(()),
                 Err(fault) => return Err(fault),
             }

@@ -62,7 +62,7 @@ pub(crate) fn monitored_by(alloc: Global, roster: &Roster) -> Result<Vec<Monitor
     while let [master, more @ ..] = rest {
         monitored.push(MonitoredMaster {
             name: master.name,
-            quorum: master.quorum,
+            nodes: master.nodes().len(),
         })?;
         rest = more;
     }

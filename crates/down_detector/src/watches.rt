@@ -55,6 +55,13 @@ impl Watch {
         }
     }
 
+    /// When its last valid answer to a PING came; before the first one when the watch was opened.
+    pub fn silent_from(&self) -> u64
+        ensures { result ≡ self.now.silent_from }
+    {
+        self.silent_from
+    }
+
     /// The node answered a PING. A valid answer ends its silence, any other changes nothing.
     pub fn heard(&mut self, now: u64, reply: PingReply)
         ensures stands { (opened : ℕ) (calls : List WatchCall) → StandsForCalls self.old opened calls
@@ -91,6 +98,13 @@ impl Watch {
         if self.replica_since.is_some() {
             self.replica_since = Some(clock_of(now));
         }
+    }
+
+    /// Since when the node has reported itself a replica without a break, or its master's address last changed.
+    pub fn replica_since(&self) -> Option<u64>
+        ensures { result ≡ self.now.replica_since }
+    {
+        self.replica_since
     }
 
     /// Whether the node is subjectively down (the Redis Sentinel documentation, "SDOWN and ODOWN failure state"): it

@@ -2,7 +2,7 @@
 use Rattle.std.proofs.Common.{List, get_or}
 use Rattle.std.specs.Prelude.{All}
 use Rattle.ballot_law.specs.declared.events.Event.{Event}
-use Rattle.ballot_law.specs.declared.events.Event.TheVariants.{Tick, Command, Answered, Pinged, InfoRead, HelloRead, Disconnected, Become, Handed}
+use Rattle.ballot_law.specs.declared.events.Event.TheVariants.{Tick, Command, Answered, Pinged, InfoRead, HelloRead, Disconnected, Refused, Become, Handed}
 use Rattle.ballot_law.specs.declared.steps.Step.{Step}
 use Rattle.ballot_law.specs.declared.steps.Step.TheVariants.{Take, Deliver, Store, StoreRefused, Release, Stop, Start, Answer}
 use Rattle.ballot_law.specs.Worlds.{IsFree}
@@ -17,6 +17,7 @@ told_within (Answered voter master addr down leader epoch) told = absurd told
 told_within (Pinged node reply) told = absurd told
 told_within (InfoRead node text) told = absurd told
 told_within (HelloRead text) told = absurd told
+told_within (Refused node) told = absurd told
 told_within (Disconnected node) told = absurd told
 told_within (Become priority offset link_down) told = told
 told_within (Handed message) told = absurd told
@@ -42,6 +43,7 @@ free_takeable (Answered voter master addr down leader epoch) free within = absur
 free_takeable (Pinged node reply) free within = tt
 free_takeable (InfoRead node text) free within = tt
 free_takeable (HelloRead text) free within = absurd free
+free_takeable (Refused node) free within = tt
 free_takeable (Disconnected node) free within = tt
 free_takeable (Become priority offset link_down) free within = within
 free_takeable (Handed message) free within = absurd free

@@ -3,9 +3,9 @@ use Rattle.std.proofs.Common.{◌≡◌, Option, Some, None, sym, ◌∙◌, sub
 use Rattle.std.specs.Prelude.{IsSome, IfSome}
 use Rattle.std.proofs.lemmas.Option.{none-some, same_Some}
 use Rattle.ballot_law.specs.declared.events.Event.{Event}
-use Rattle.ballot_law.specs.declared.events.Event.TheVariants.{Tick, Command, Answered, Pinged, InfoRead, HelloRead, Disconnected, Become, Handed}
+use Rattle.ballot_law.specs.declared.events.Event.TheVariants.{Tick, Command, Answered, Pinged, InfoRead, HelloRead, Disconnected, Refused, Become, Handed}
 use Rattle.ballot_law.specs.declared.messages.Body.{Body}
-use Rattle.ballot_law.specs.declared.messages.Body.TheVariants.{Ask, Answer, Ping, PingText, InfoAsk, InfoText, Publish, HelloText, ReplicaOf, AddressAsk, AddressAnswer, PortReply, RoleAsk, RoleText, Done}
+use Rattle.ballot_law.specs.declared.messages.Body.TheVariants.{Ask, Answer, Ping, PingText, InfoAsk, InfoText, Publish, HelloText, ReplicaOf, HandOver, AddressAsk, AddressAnswer, PortReply, RoleAsk, RoleText, Done}
 use Rattle.ballot_law.specs.declared.messages.Message.{Message}
 use Rattle.ballot_law.specs.declared.messages.NodeName.{NodeName}
 use Rattle.ballot_law.specs.declared.messages.NodeName.TheVariants.{SentinelAt, StoreAt, ClientAt, PortAt}
@@ -29,6 +29,7 @@ heard_is sender (HelloText hello) event e = subst IsHeard (same_Some _ event e) 
 heard_is sender (AddressAsk name) event e = subst IsHeard (same_Some _ event e) tt
 heard_is sender InfoAsk event e = absurd (none-some event e)
 heard_is sender (Publish hello) event e = absurd (none-some event e)
+heard_is sender (HandOver heir) event e = absurd (none-some event e)
 heard_is sender (ReplicaOf addr) event e = absurd (none-some event e)
 heard_is sender (AddressAnswer shown) event e = absurd (none-some event e)
 heard_is sender (PortReply shown text) event e = absurd (none-some event e)
@@ -43,6 +44,7 @@ heard_taken (Answered voter master addr down leader epoch) h within = within
 heard_taken (Pinged node reply) h within = within
 heard_taken (InfoRead node text) h within = within
 heard_taken (HelloRead text) h within = within
+heard_taken (Refused node) h within = within
 heard_taken (Disconnected node) h within = within
 heard_taken (Become priority offset link_down) h within = absurd h
 heard_taken (Handed message) h within = absurd h

@@ -54,6 +54,7 @@ fn is_free(event: &Event) -> bool
         Event::InfoRead { .. } => true,
         Event::HelloRead { .. } => false,
         Event::Disconnected { .. } => true,
+        Event::Refused { .. } => true,
         Event::Become { .. } => true,
         Event::Handed(_) => false,
     }

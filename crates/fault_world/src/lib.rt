@@ -43,7 +43,8 @@ pub use faults::{RunFault, WorldFault};
 pub use laws::{law_reports_join, law_scenarios_are_within};
 pub use report::Report;
 pub use scenarios::{
-    ScenarioFault, ScenarioKind, add_comment, add_message, read_scenario, words_of,
+    ScenarioFault, ScenarioKind, add_comment, add_message, read_scenario, read_scenario_as,
+    words_of,
 };
 pub use seated::Seated;
 pub use starts::members_of;

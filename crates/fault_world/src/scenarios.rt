@@ -37,5 +37,5 @@ mod wording;
 pub use comments::add_comment;
 pub use faults::{ScenarioFault, ScenarioKind};
 pub use message_lines::add_message;
-pub use reading::read_scenario;
+pub use reading::{read_scenario, read_scenario_as};
 pub use wording::words_of;

@@ -49,6 +49,7 @@ fn copy_of_event(alloc: Global, event: &Event) -> Result<Event, NoMemory>
             text: Text::from_slice(alloc, text.as_slice())?,
         }),
         Event::Disconnected { node } => Ok(Event::Disconnected { node: *node }),
+        Event::Refused { node } => Ok(Event::Refused { node: *node }),
         Event::Become {
             priority,
             offset,

@@ -13,7 +13,7 @@ use Rattle.links.specs.declared.sessions.questions.Question.{Question}
 use Rattle.links.specs.declared.sessions.questions.Question.TheVariants as asks
 use Rattle.links.specs.declared.sessions.replies.Vote.{Vote}
 use Rattle.links.specs.Sessions.LongValues.{told_value}
-use Rattle.links.specs.Sessions.Links.{next_asked, heard_of, ping_heard, info_heard, answered, ask_heard, named, id_heard, vote_of, hello_in, hello_in_list, hello_of_list, hello_heard, is_confirmed, begins_message, list_of, listed, Tells}
+use Rattle.links.specs.Sessions.Links.{next_asked, heard_of, ping_heard, info_heard, answered, ask_heard, hand_over_heard, named, id_heard, vote_of, hello_in, hello_in_list, hello_of_list, hello_heard, is_confirmed, begins_message, list_of, listed, Tells}
 use Rattle.links.specs.declared.target.Target.{Target}
 use Rattle.links.specs.NodeLinks.{IsHeardOn, IsAsked}
 
@@ -106,6 +106,15 @@ module _ (target : Target) where
   hello_on listens null_items = tt
   hello_on listens (items fs) = hello_if listens (list_of fs) (is_confirmed (list_of fs)) (begins_message (list_of fs))
 
+  refusal_on : (f : Frame) → AllByRecursion (IsHeardOn target) (listed (hand_over_heard target.node f))
+  refusal_on (simple text) = tt
+  refusal_on (fault text) = (refl, tt)
+  refusal_on (int z) = tt
+  refusal_on (bulk text) = tt
+  refusal_on null_bulk = tt
+  refusal_on null_items = tt
+  refusal_on (items fs) = tt
+
   -- a hello is awaited where the connection listens
   abbrev MayAwait : Question → Type 0
   MayAwait asks.Hello = target.listens ≡ true
@@ -115,6 +124,7 @@ module _ (target : Target) where
   value_on asks.Ping f may = ping_on f
   value_on asks.Info f may = info_on f
   value_on (asks.Ask master addr) f may = ask_on master addr f
+  value_on asks.HandOver f may = refusal_on f
   value_on asks.Order f may = tt
   value_on (asks.Identity id) f may = id_on id f
   value_on asks.Hello f may = hello_on may f
@@ -123,6 +133,7 @@ module _ (target : Target) where
   asked_awaits asks.Ping is = tt
   asked_awaits asks.Info is = tt
   asked_awaits (asks.Ask master addr) is = tt
+  asked_awaits asks.HandOver is = tt
   asked_awaits asks.Order is = tt
   asked_awaits (asks.Identity id) is = tt
   asked_awaits asks.Hello is = absurd is

@@ -2,7 +2,7 @@
 use Rattle.std.specs.Prelude.{◌≡◌, ◌≤◌, ℕ, Bool, true, false, List, [], ◌∷◌, ◌++◌, length, None, if◌then◌else◌}
 use Rattle.std.specs.List.{AllByRecursion}
 use Rattle.ballot_law.specs.declared.events.Event.{Event}
-use Rattle.ballot_law.specs.declared.events.Event.TheVariants.{Answered, Pinged, InfoRead, HelloRead}
+use Rattle.ballot_law.specs.declared.events.Event.TheVariants.{Answered, Pinged, InfoRead, HelloRead, Refused}
 use Rattle.ballot_law.specs.declared.messages.Body.{Body}
 use Rattle.links.specs.declared.sessions.conversation.TheConstants.{ASKED_MAX}
 use Rattle.links.specs.declared.sessions.long_bulk.TheConstants.{HELD_MAX}
@@ -63,6 +63,7 @@ IsHeardOn target (Pinged node reply) = node ≡ target.node
 IsHeardOn target (InfoRead node text) = node ≡ target.node
 IsHeardOn target (Answered voter master addr down leader epoch) = voter ≡ target.node
 IsHeardOn target (HelloRead text) = target.listens ≡ true
+IsHeardOn target (Refused node) = node ≡ target.node
 IsHeardOn target event = ⊥
 
 -- a question that is asked: a hello comes unasked

@@ -41,4 +41,4 @@ pub use sessions::{
 pub use silence_timer::{NO_HELLOS_MS, SilenceTimer};
 pub use speaking::Login;
 pub use target::{Target, connection_count, place_of, target_at};
-pub use tick_schedule::{TickSchedule, is_gap, pause_of, turn_of};
+pub use tick_schedule::{HURRY_MS, TickSchedule, is_gap, pause_of, turn_of};

@@ -10,6 +10,9 @@ pub const TICK_MIN_MS: u64 = 50;
 
 pub const TICK_MAX_MS: u64 = 100;
 
+/// The longest time between two ticks while a switch is under way that a client asked for, in milliseconds.
+pub const HURRY_MS: u64 = 20;
+
 /// How far apart the turns of two Sentinels are that may begin a campaign, in milliseconds, where few of them share the
 /// longest pause: a vote is stored, and asked of the others, in much less.
 pub const SLOT_MAX_MS: u64 = 200;
@@ -124,6 +127,15 @@ impl TickSchedule {
         let pause = TICK_MIN_MS + lot % (TICK_MAX_MS - TICK_MIN_MS + 1);
         self.tick_due = now.saturating_add(pause);
         self.ticked = now;
+    }
+
+    /// A switch is under way that a client asked for: the next ticks are due soon after those that began at this
+    /// reading.
+    pub fn hurry(&mut self, now: u64)
+        ensures soon { now + HURRY_MS < 2 ^ 64 → self.new.tick_due ≡ min self.old.tick_due (now + HURRY_MS) }
+        ensures turned { (self.new.turned ≡ self.old.turned) × (self.new.ticked ≡ self.old.ticked) }
+    {
+        self.tick_due = self.tick_due.min(now.saturating_add(HURRY_MS));
     }
 
     /// A campaign is near: the next ticks are held back for so long from now. What is due later stays so, and no ticks

@@ -1,3 +1,4 @@
+pub mod AnnouncedLemmas
 pub mod HelloAgain
 pub mod HelloBack
 pub mod InfoAgain

@@ -52,7 +52,7 @@ pub(crate) struct Fields {
 }
 
 /// What stands behind the label, where the line begins with it.
-fn after_label<'a>(line: &'a [u8], label: &[u8]) -> Option<&'a [u8]>
+pub(crate) fn after_label<'a>(line: &'a [u8], label: &[u8]) -> Option<&'a [u8]>
     ensures { MatchOption result (after_label label.now line.now ≡ None)
         (λ value. line.now ≡ label.now ++ value.now) }
 {

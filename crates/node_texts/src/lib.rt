@@ -4,6 +4,7 @@
 //! commands of a data node; their answers are read here as far as a Sentinel needs them. Reading takes no memory.
 #![tactic(auto)]
 
+mod announced;
 mod drafts;
 mod encoding;
 mod faults;
@@ -15,6 +16,7 @@ mod lines;
 mod messages;
 mod roles;
 
+pub use announced::is_announced;
 pub use ballot_law::{Hello, Info, Role};
 pub use faults::TextFault;
 pub use hellos::{read_hello, write_hello};

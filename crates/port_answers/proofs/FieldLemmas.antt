@@ -7,7 +7,7 @@ use Rattle.port_answers.specs.Room.{bounded}
 use Rattle.port_answers.specs.Answers.{fields_text, header}
 use Rattle.bounded_list.proofs.Bounded.{added_both}
 
-fields_text-append : (xs ys : List (List ℕ × List ℕ)) → fields_text (xs ++ ys) ≡ fields_text xs ++ fields_text ys
+pub fields_text-append : (xs ys : List (List ℕ × List ℕ)) → fields_text (xs ++ ys) ≡ fields_text xs ++ fields_text ys
 fields_text-append [] ys = refl
 fields_text-append (x ∷ xs) ys =
     ap (λ t. spelling (bulk x.0) ++ (spelling (bulk x.1) ++ t)) (fields_text-append xs ys)
@@ -48,3 +48,8 @@ headed count fields old mid new e f = f ∙ ap (λ t. bounded (t ++ fields_text 
 pub line_of : (old new before number behind end : List ℕ) → new ≡ bounded (old ++ (before ++ (number ++ (behind ++ end)))) →
     new ≡ bounded (old ++ (before ++ ((number ++ behind) ++ end)))
 line_of old new before number behind end e = e ∙ ap (λ t. bounded (old ++ (before ++ t))) (sym (append_assoc number behind end))
+
+-- the beginning of an array of so many values, and then its fields
+pub counted : (n count : ℕ) (fields : List (List ℕ × List ℕ)) (old mid new : List ℕ) → mid ≡ bounded (old ++ header n) → new ≡ bounded (mid ++ fields_text fields)
+    → n ≡ count → new ≡ bounded (old ++ (header count ++ fields_text fields))
+counted n count fields old mid new e f is = headed n fields old mid new e f ∙ ap (λ k. bounded (old ++ (header k ++ fields_text fields))) is

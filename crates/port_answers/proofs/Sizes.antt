@@ -19,13 +19,13 @@ use Rattle.port_answers.proofs.RowLemmas.{count_rows}
 
 -- ---- words
 
-port_size : (n : ℕ) → n ≤ 65535 → length (decimal n) ≤ 5
+pub port_size : (n : ℕ) → n ≤ 65535 → length (decimal n) ≤ 5
 port_size n h = length-decimal-le 5 n (omega arith) (omega arith) (omega arith)
 
-addr_size : (addr : Addr) → IsPlace addr → length (addr_text addr) ≤ 21
+pub addr_size : (addr : Addr) → IsPlace addr → length (addr_text addr) ≤ 21
 addr_size addr h = omega (arith, length-append (ip_text addr.ip) (58 ∷ decimal addr.port), ip_size addr.ip h.ip, port_size addr.port h.port)
 
-master_flags_size : (down odown disconnected failing_over : Bool) → length (master_flags down odown disconnected failing_over) ≤ 54
+pub master_flags_size : (down odown disconnected failing_over : Bool) → length (master_flags down odown disconnected failing_over) ≤ 54
 master_flags_size true true true true = omega arith
 master_flags_size true true true false = omega arith
 master_flags_size true true false true = omega arith
@@ -43,7 +43,7 @@ master_flags_size false false true false = omega arith
 master_flags_size false false false true = omega arith
 master_flags_size false false false false = omega arith
 
-node_flags_size : (down disconnected : Bool) (kind : List ℕ) → length (node_flags down disconnected kind) ≤ length kind + 20
+pub node_flags_size : (down disconnected : Bool) (kind : List ℕ) → length (node_flags down disconnected kind) ≤ length kind + 20
 node_flags_size true true kind = omega (arith, length-append kind (44 ∷ codes "disconnected"))
 node_flags_size true false kind = omega arith
 node_flags_size false true kind = omega (arith, length-append kind (44 ∷ codes "disconnected"))
@@ -63,35 +63,35 @@ bulk_size xs h =
     )
 
 -- a name and a value of at most so many bytes
-record IsShort (field : List ℕ × List ℕ) : Type 0 where
+pub record IsShort (field : List ℕ × List ℕ) : Type 0 where
   pub name : length field.0 ≤ 99
   pub value : length field.1 ≤ 99
 
-abbrev fields_room : List (List ℕ × List ℕ) → ℕ
+abbrev pub fields_room : List (List ℕ × List ℕ) → ℕ
 fields_room [] = 0
 fields_room (field ∷ fields) = (length field.0 + 7) + (length field.1 + 7) + fields_room fields
 
 three_sizes : (a b c : List ℕ) (k m n : ℕ) → length a ≤ k → length b ≤ m → length c ≤ n → length (a ++ (b ++ c)) ≤ k + m + n
 three_sizes a b c k m n f g h = omega (arith, length-append a (b ++ c), length-append b c)
 
-fields_size : (fields : List (List ℕ × List ℕ)) → AllByRecursion IsShort fields → length (fields_text fields) ≤ fields_room fields
+pub fields_size : (fields : List (List ℕ × List ℕ)) → AllByRecursion IsShort fields → length (fields_text fields) ≤ fields_room fields
 fields_size [] h = omega arith
 fields_size (field ∷ fields) h =
     three_sizes (spelling (bulk field.0)) (spelling (bulk field.1)) (fields_text fields) (length field.0 + 7) (length field.1 + 7) (fields_room fields)
     (bulk_size field.0 h.0.name) (bulk_size field.1 h.0.value) (fields_size fields h.1)
 
-short : (name value : List ℕ) → length name ≤ 99 → length value ≤ 99 → IsShort (name, value)
+pub short : (name value : List ℕ) → length name ≤ 99 → length value ≤ 99 → IsShort (name, value)
 short name value h k = record { name = h; value = k }
 
 -- ---- rows
 
-array_size : (n : ℕ) (xs : List ℕ) (k m : ℕ) → length (decimal n) ≤ k → length xs ≤ m → length (42 ∷ ((decimal n ++ line_end) ++ xs)) ≤ k + m + 3
+pub array_size : (n : ℕ) (xs : List ℕ) (k m : ℕ) → length (decimal n) ≤ k → length xs ≤ m → length (42 ∷ ((decimal n ++ line_end) ++ xs)) ≤ k + m + 3
 array_size n xs k m h i = omega (arith, length-append (decimal n ++ line_end) xs, length-append (decimal n) line_end)
 
-two_digits : (n : ℕ) → n ≤ 99 → length (decimal n) ≤ 2
+pub two_digits : (n : ℕ) → n ≤ 99 → length (decimal n) ≤ 2
 two_digits n h = length-decimal-le 2 n (omega arith) (omega arith) (omega arith)
 
-at_most : (a b c : ℕ) → a ≤ b → b ≤ c → a ≤ c
+pub at_most : (a b c : ℕ) → a ≤ b → b ≤ c → a ≤ c
 at_most a b c f g = omega arith
 
 -- an array of fields

@@ -125,6 +125,16 @@ no_such_master = fault (codes "ERR No such master with that name")
 abbrev pub ok_line : Frame
 ok_line = simple (codes "OK")
 
+-- the answers to SENTINEL FAILOVER where no switch begins: one is under way, the clock isn't to be trusted, or no replica can be promoted
+abbrev pub in_progress : Frame
+in_progress = fault (codes "INPROG Failover already in progress")
+
+abbrev pub in_tilt : Frame
+in_tilt = fault (codes "ERR Sentinel is in TILT mode, no failover begins")
+
+abbrev pub no_good_replica : Frame
+no_good_replica = fault (codes "NOGOODSLAVE No suitable replica to promote")
+
 -- so many Sentinels can be reached, and that is enough
 abbrev pub quorum_reached : ℕ → Frame
 quorum_reached usable = simple (codes "OK " ++ (decimal usable ++ codes " usable Sentinels, quorum and majority can be reached"))

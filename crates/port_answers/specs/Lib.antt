@@ -1,3 +1,4 @@
 pub mod Room
 pub mod Answers
+pub mod RedisRows
 pub mod Limits

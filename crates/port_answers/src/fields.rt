@@ -17,7 +17,7 @@ use tokens::{ip_text, run_id_text};
 const ADDR_TEXT_MAX: usize = 21;
 
 /// An address as `ip:port`.
-fn addr_text(addr: Addr) -> ArrayVec<u8, ADDR_TEXT_MAX>
+pub(crate) fn addr_text(addr: Addr) -> ArrayVec<u8, ADDR_TEXT_MAX>
     ensures { result.items ≡ addr_text addr }
 {
     let mut buffer = Buffer::new();

@@ -7,11 +7,14 @@
 
 mod answer_text;
 mod fields;
+mod known_rows;
 mod laws;
 mod line_answers;
+mod redis_rows;
 mod row_answers;
 mod rows;
 
 pub use answer_text::AnswerText;
+pub use known_rows::{ContactRow, FailoverStage, LinkRow, SaidRow};
 pub use laws::law_answers_fit;
 pub use rows::{MasterRow, ReplicaRow, SentinelRow};

@@ -3,7 +3,7 @@
 ghost use Rattle.std.specs.Prelude.{◌≡◌, ◌∷◌, ◌++◌, decimal};
 ghost use Rattle.resp2.specs.Framing.Frame.{spelling, line_end};
 ghost use Rattle.port_answers.specs.Room.{bounded};
-ghost use Rattle.port_answers.specs.Answers.{no_such_master, ok_line, quorum_reached, no_quorum, id_frame, subscribed, fault_text, command_fault, protocol_error};
+ghost use Rattle.port_answers.specs.Answers.{no_such_master, ok_line, in_progress, in_tilt, no_good_replica, quorum_reached, no_quorum, id_frame, subscribed, fault_text, command_fault, protocol_error};
 
 use crate::answer_text::AnswerText;
 use ballot_law::RunId;
@@ -29,7 +29,7 @@ fn fault_text(fault: CommandFault) -> &'static [u8]
 impl AnswerText {
     /// Adds a text, a number, another text, and CR LF.
     #[tactic(auto, using(bounded_list::proofs::Bounded::added_both))]
-    fn add_counted(&mut self, before: &[u8], number: u64, behind: &[u8])
+    pub(crate) fn add_counted(&mut self, before: &[u8], number: u64, behind: &[u8])
         ensures { self.new
             ≡ bounded (self.old ++ (before.now ++ (decimal number ++ (behind.now ++ line_end)))) }
     {
@@ -51,6 +51,27 @@ impl AnswerText {
         ensures { self.new ≡ bounded (self.old ++ spelling ok_line) }
     {
         self.add_kind(b'+', b"OK");
+    }
+
+    /// Adds the answer that a failover is under way already. What has no room is cut.
+    pub fn add_in_progress(&mut self)
+        ensures { self.new ≡ bounded (self.old ++ spelling in_progress) }
+    {
+        self.add_kind(b'-', b"INPROG Failover already in progress");
+    }
+
+    /// Adds the answer that the clock isn't to be trusted, so that no failover begins. What has no room is cut.
+    pub fn add_in_tilt(&mut self)
+        ensures { self.new ≡ bounded (self.old ++ spelling in_tilt) }
+    {
+        self.add_kind(b'-', b"ERR Sentinel is in TILT mode, no failover begins");
+    }
+
+    /// Adds the answer that no replica can be promoted. What has no room is cut.
+    pub fn add_no_good_replica(&mut self)
+        ensures { self.new ≡ bounded (self.old ++ spelling no_good_replica) }
+    {
+        self.add_kind(b'-', b"NOGOODSLAVE No suitable replica to promote");
     }
 
     /// Adds the answer that so many Sentinels can be reached, which is enough for a failover. What has no room is cut.

@@ -50,7 +50,7 @@ fn lost_flags(down: bool, odown: bool, failing_over: bool) -> &'static [u8]
 }
 
 /// The flags of a master.
-fn master_flags(row: &MasterRow) -> &'static [u8]
+pub(crate) fn master_flags(row: &MasterRow) -> &'static [u8]
     ensures { result.now ≡ master_flags row.now.down row.now.odown row.now.disconnected row.now.failing_over }
 {
     if row.disconnected {
@@ -60,7 +60,7 @@ fn master_flags(row: &MasterRow) -> &'static [u8]
 }
 
 /// The flags of a replica.
-fn replica_flags(down: bool, disconnected: bool) -> &'static [u8]
+pub(crate) fn replica_flags(down: bool, disconnected: bool) -> &'static [u8]
     ensures { result.now ≡ node_flags down disconnected (codes "slave") }
 {
     match (down, disconnected) {
@@ -72,7 +72,7 @@ fn replica_flags(down: bool, disconnected: bool) -> &'static [u8]
 }
 
 /// The flags of a Sentinel.
-fn sentinel_flags(down: bool, disconnected: bool) -> &'static [u8]
+pub(crate) fn sentinel_flags(down: bool, disconnected: bool) -> &'static [u8]
     ensures { result.now ≡ node_flags down disconnected (codes "sentinel") }
 {
     match (down, disconnected) {

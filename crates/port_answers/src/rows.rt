@@ -1,5 +1,6 @@
 //! What an answer says of one node.
 
+use crate::known_rows::{ContactRow, FailoverStage, LinkRow, SaidRow};
 use ballot_law::{Addr, Name, RunId};
 
 /// A master, as the answers to MASTER and MASTERS show it.
@@ -31,6 +32,14 @@ pub struct MasterRow {
     pub parallel_syncs: u64,
     /// The epoch of the configuration.
     pub epoch: u64,
+    /// How long ago this Sentinel found that enough Sentinels agree, where they do, in milliseconds.
+    pub odown_ms: u64,
+    /// How far the failover is.
+    pub stage: FailoverStage,
+    /// When the master replied.
+    pub contact: ContactRow,
+    /// What the master's INFO said.
+    pub said: SaidRow,
 }
 
 /// A replica of a master, as the answer to REPLICAS shows it.
@@ -46,6 +55,14 @@ pub struct ReplicaRow {
     pub priority: u64,
     /// How many bytes of the replication stream the replica has processed.
     pub offset: u64,
+    /// After how many milliseconds without a valid reply the replica is down.
+    pub after_ms: u64,
+    /// When the replica replied.
+    pub contact: ContactRow,
+    /// What the replica's INFO said.
+    pub said: SaidRow,
+    /// What it said of the replica's master.
+    pub link: LinkRow,
 }
 
 /// Another Sentinel, as the answer to SENTINELS shows it.
@@ -59,4 +76,15 @@ pub struct SentinelRow {
     pub down: bool,
     /// Whether this Sentinel has lost its connection to the other one, and heard nothing of it since.
     pub disconnected: bool,
+    /// How many masters both watch.
+    pub masters: u64,
+    /// After how many milliseconds without a valid reply the other one is down.
+    pub after_ms: u64,
+    /// How many milliseconds ago its last hello came.
+    pub hello_ms: u64,
+    /// The candidate of the last vote of it that was heard, and the epoch of that vote; 0 where none was.
+    pub leader: Option<RunId>,
+    pub leader_epoch: u64,
+    /// When the other Sentinel replied.
+    pub contact: ContactRow,
 }

@@ -6,7 +6,7 @@ use Rattle.ballot_law.specs.declared.cards.Card.{Card}
 use Rattle.ballot_law.specs.declared.cards.Kept.{Kept}
 use Rattle.ballot_law.specs.declared.cards.Shown.{Shown}
 use Rattle.ballot_law.specs.declared.commands.Command.{Command}
-use Rattle.ballot_law.specs.declared.commands.Command.TheVariants.{Ping, IsMasterDownByAddr, GetMasterAddrByName, Masters, Master, Replicas, Sentinels, MyId, CkQuorum, FlushConfig, Subscribe}
+use Rattle.ballot_law.specs.declared.commands.Command.TheVariants.{Ping, IsMasterDownByAddr, GetMasterAddrByName, Masters, Master, Replicas, Sentinels, MyId, CkQuorum, Failover, FlushConfig, Subscribe}
 use Rattle.ballot_law.specs.declared.events.Input.{Input}
 use Rattle.ballot_law.specs.declared.events.Event.TheVariants.{Command as Commanded}
 use Rattle.ballot_law.specs.declared.messages.Body.TheVariants.{AddressAnswer}
@@ -82,6 +82,7 @@ served_by start now v w (Ok (Master name)) bytes h = turn_served start now v w (
 served_by start now v w (Ok (Replicas name)) bytes h = turn_served start now v w (Replicas name) bytes h
 served_by start now v w (Ok (Sentinels name)) bytes h = turn_served start now v w (Sentinels name) bytes h
 served_by start now v w (Ok MyId) bytes h = turn_served start now v w MyId bytes h
+served_by start now v w (Ok (Failover name)) bytes h = turn_served start now v w (Failover name) bytes h
 served_by start now v w (Ok (CkQuorum name)) bytes h = turn_served start now v w (CkQuorum name) bytes h
 served_by start now v w (Ok FlushConfig) bytes h = turn_served start now v w FlushConfig bytes h
 served_by start now v w (Ok Subscribe) bytes h = turn_served start now v w Subscribe bytes h

@@ -13,7 +13,7 @@ use Rattle.ballot_law.specs.declared.cards.Kept.{Kept}
 use Rattle.ballot_law.specs.declared.cards.Shown.{Shown}
 use Rattle.ballot_law.specs.declared.events.Event.{Event}
 use Rattle.ballot_law.specs.declared.messages.Body.{Body}
-use Rattle.ballot_law.specs.declared.messages.Body.TheVariants.{Ask, Answer, Ping, PingText, InfoAsk, InfoText, Publish, HelloText, ReplicaOf, AddressAsk, AddressAnswer, PortReply, RoleAsk, RoleText, Done}
+use Rattle.ballot_law.specs.declared.messages.Body.TheVariants.{Ask, Answer, Ping, PingText, InfoAsk, InfoText, Publish, HelloText, ReplicaOf, HandOver, AddressAsk, AddressAnswer, PortReply, RoleAsk, RoleText, Done}
 use Rattle.ballot_law.specs.declared.messages.Message.{Message}
 use Rattle.ballot_law.specs.declared.messages.NodeName.{NodeName}
 use Rattle.ballot_law.specs.declared.messages.NodeName.TheVariants.{SentinelAt, StoreAt, ClientAt, PortAt}
@@ -147,6 +147,7 @@ module _ (own whole : Roster) (d : DifferInNodes own whole) where
   same_advertised (InfoText told) = refl
   same_advertised (HelloText hello) = refl
   same_advertised (ReplicaOf to) = refl
+  same_advertised (HandOver heir) = refl
   same_advertised (AddressAsk name) = refl
   same_advertised RoleAsk = refl
   same_advertised (RoleText role) = refl

@@ -8,7 +8,7 @@ use Rattle.ballot_law.specs.declared.commands.Command.TheVariants.{Ping as PingC
 use Rattle.ballot_law.specs.declared.events.Event.{Event}
 use Rattle.ballot_law.specs.declared.events.Event.TheVariants.{Command as Commanded, Answered, Pinged}
 use Rattle.ballot_law.specs.declared.messages.Body.{Body}
-use Rattle.ballot_law.specs.declared.messages.Body.TheVariants.{Ask, Answer, Ping, PingText, InfoAsk, InfoText, Publish, HelloText, ReplicaOf, AddressAsk, AddressAnswer, PortReply, RoleAsk, RoleText, Done}
+use Rattle.ballot_law.specs.declared.messages.Body.TheVariants.{Ask, Answer, Ping, PingText, InfoAsk, InfoText, Publish, HelloText, ReplicaOf, HandOver, AddressAsk, AddressAnswer, PortReply, RoleAsk, RoleText, Done}
 use Rattle.ballot_law.specs.declared.messages.Message.{Message}
 use Rattle.ballot_law.specs.declared.messages.NodeName.{NodeName}
 use Rattle.ballot_law.specs.declared.messages.NodeName.TheVariants.{SentinelAt}
@@ -104,6 +104,7 @@ answers_are_heard start i v w (InfoText info) event d left plan stores messages 
 answers_are_heard start i v w (Publish hello) event d left plan stores messages askable one tells sent_in = absurd askable
 answers_are_heard start i v w (HelloText hello) event d left plan stores messages askable one tells sent_in = absurd askable
 answers_are_heard start i v w (ReplicaOf to) event d left plan stores messages askable one tells sent_in = absurd askable
+answers_are_heard start i v w (HandOver heir) event d left plan stores messages askable one tells sent_in = absurd askable
 answers_are_heard start i v w (AddressAsk name) event d left plan stores messages askable one tells sent_in = absurd askable
 answers_are_heard start i v w (AddressAnswer shown) event d left plan stores messages askable one tells sent_in = absurd askable
 answers_are_heard start i v w (PortReply shown text) event d left plan stores messages askable one tells sent_in = absurd askable

@@ -6,7 +6,7 @@ use mathlib.Core.List.{append-nil}
 use Rattle.ballot_law.specs.declared.cards.Kept.{Kept}
 use Rattle.ballot_law.specs.declared.cards.Shown.{Shown}
 use Rattle.ballot_law.specs.declared.events.Event.{Event}
-use Rattle.ballot_law.specs.declared.events.Event.TheVariants.{Tick, Command, Answered, Pinged, InfoRead, HelloRead, Disconnected, Become, Handed}
+use Rattle.ballot_law.specs.declared.events.Event.TheVariants.{Tick, Command, Answered, Pinged, InfoRead, HelloRead, Disconnected, Refused, Become, Handed}
 use Rattle.ballot_law.specs.declared.events.Input.{Input}
 use Rattle.ballot_law.specs.declared.messages.Message.{Message}
 use Rattle.ballot_law.specs.declared.messages.NodeName.{NodeName}
@@ -280,6 +280,7 @@ not_flushed plan (Answered voter m addr down leader epoch) h = refl
 not_flushed plan (Pinged node reply) h = refl
 not_flushed plan (InfoRead node text) h = refl
 not_flushed plan (HelloRead text) h = refl
+not_flushed plan (Refused node) h = refl
 not_flushed plan (Disconnected node) h = refl
 not_flushed plan (Become priority offset link_down) h = refl
 not_flushed plan (Handed message) h = refl

@@ -34,6 +34,7 @@ use Rattle.resp2.specs.Commands.{command_of}
 use Rattle.resp2.specs.Framing.Frame.{Frame, simple, fault, int, bulk, null_bulk, items, null_items, spelling, IsPlain, IsFrame}
 use Rattle.resp2.proofs.AskFrames.{short_array}
 use Rattle.resp2.proofs.FramingLemmas.Streams.{one_spelling}
+use Rattle.resp2.proofs.Switches.{known_too}
 use Rattle.sentinel_cell.specs.declared.entry.Entry.{Entry}
 use Rattle.sentinel_cell.specs.declared.view.View.{View}
 use Rattle.sentinel_cell.specs.Histories.{World, replay}
@@ -111,9 +112,9 @@ id_replied : (start : World) (now : ℕ) (g : Guest) (bytes : List ℕ) (h : Gue
     → Serves start now g id_value bytes h
     → IdReply start g.party.view bytes h.party.view × (h.party.listens ≡ None) × (h ≡ guest h.party g.listening g.told g.asker)
 id_replied start now g bytes h known quiet silent serves =
-    let own = own_as_before start now g h id_value MyId bytes known quiet (λ (e : MyId ≡ Subscribe). let no : ⊥ = cc in no) id_read serves in
-    let a = answers start now g.party (Ok MyId) MyId own.0 h.party silent refl own.1 in
-    let t = turned start now g.party.view MyId own.0 h.party.view a.0 in
+    let own = own_as_before start now g h id_value MyId bytes known quiet (λ (e : MyId ≡ Subscribe). let no : ⊥ = cc in no) (known_too id_value MyId id_read) serves in
+    let a = answers start now g.party (Ok MyId) MyId bytes h.party silent refl own.0 in
+    let t = turned start now g.party.view MyId bytes h.party.view a.0 in
     let world = replay start (g.party.view.front ++ t.between) in
     let plan_is : world.plan ≡ start.plan = same_plan start (g.party.view.front ++ t.between) in
     let sound = t.legal.0.plan in (
@@ -121,10 +122,10 @@ id_replied start now g bytes h known quiet silent serves =
         more = t.between ++ t.entry ∷ [];
         front = t.front ∙ append_assoc g.party.view.front t.between (t.entry ∷ []);
         is_id = (sound.conf.members start.plan.place sound.place).1;
-        spelled = own.2 ∙ (t.bytes_are ∙ ap (λ (p : Plan). spelling (id_frame (me p))) plan_is);
+        spelled = t.bytes_are ∙ ap (λ (p : Plan). spelling (id_frame (me p))) plan_is;
       },
       a.1,
-      own.3,
+      own.1,
     )
 
 -- ---- the run id that was heard

@@ -5,7 +5,7 @@ use Rattle.ballot_law.specs.declared.commands.Command.{Command}
 use Rattle.ballot_law.specs.declared.commands.Command.TheVariants.{Ping as PingCommand, IsMasterDownByAddr, Subscribe}
 use Rattle.ballot_law.specs.declared.events.Event.{Event}
 use Rattle.ballot_law.specs.declared.messages.Body.{Body}
-use Rattle.ballot_law.specs.declared.messages.Body.TheVariants.{Ask, Answer, Ping, PingText, InfoAsk, InfoText, Publish, HelloText, ReplicaOf, AddressAsk, AddressAnswer, PortReply, RoleAsk, RoleText, Done}
+use Rattle.ballot_law.specs.declared.messages.Body.TheVariants.{Ask, Answer, Ping, PingText, InfoAsk, InfoText, Publish, HelloText, ReplicaOf, HandOver, AddressAsk, AddressAnswer, PortReply, RoleAsk, RoleText, Done}
 use Rattle.ballot_law.specs.declared.messages.NodeName.{NodeName}
 use Rattle.ballot_law.specs.declared.messages.NodeName.TheVariants.{SentinelAt}
 use Rattle.ballot_law.specs.declared.messages.Output.TheVariants.{Send}
@@ -25,6 +25,7 @@ use Rattle.resp2.specs.declared.command.CommandFault.{CommandFault}
 use Rattle.resp2.specs.Commands.{command_of}
 use Rattle.resp2.specs.Framing.Frame.{Frame, spelling, IsFrame}
 use Rattle.resp2.proofs.Asks.{ask_again}
+use Rattle.resp2.proofs.Switches.{known_too}
 use Rattle.resp2.proofs.FramingLemmas.Streams.{one_spelling}
 use Rattle.sentinel_cell.specs.declared.entry.Entry.{Entry}
 use Rattle.sentinel_cell.specs.declared.view.View.{View}
@@ -64,14 +65,12 @@ pub record RespondsAlike (start : World) (now : ℕ) (g : Guest) (question : Bod
   pub responds : Responds start now g.party (command_of (body_frame question)) bytes h.party
   pub same : h ≡ guest h.party g.listening g.told g.asker
 
--- by the command that a value is, which is heard as it is and told as it is
-alike : (start : World) (now : ℕ) (g : Guest) (read : Result Command CommandFault) (command heard_command : Command) (bytes answer : List ℕ) (h : Guest)
-    → read ≡ Ok command → heard_command ≡ command → bytes ≡ answer → Responds start now g.party (Ok heard_command) answer h.party
-    → Responds start now g.party read bytes h.party
-alike start now g read command heard_command bytes answer h is near told r =
+-- by the command that a value is, which is heard as it is
+alike : (start : World) (now : ℕ) (g : Guest) (read : Result Command CommandFault) (command heard_command : Command) (bytes : List ℕ) (h : Guest)
+    → read ≡ Ok command → heard_command ≡ command → Responds start now g.party (Ok heard_command) bytes h.party → Responds start now g.party read bytes h.party
+alike start now g read command heard_command bytes h is near r =
     subst (λ (c : Result Command CommandFault). Responds start now g.party c bytes h.party) (sym is)
-    (subst (λ (b : List ℕ). Responds start now g.party (Ok command) b h.party) (sym told)
-    (subst (λ (c : Command). Responds start now g.party (Ok c) answer h.party) near r))
+    (subst (λ (c : Command). Responds start now g.party (Ok c) bytes h.party) near r)
 
 no_subscribe_ping : PingCommand ≢ Subscribe
 no_subscribe_ping e = let no : ⊥ = cc in no
@@ -85,15 +84,16 @@ by_ok one other e = cc
 pub responds_alike : (start : World) (now : ℕ) (g : Guest) (question : Body) (bytes : List ℕ) (h : Guest) → IsAskable question → is_stranger g.asker ≡ false
     → is_listening g.listening ≡ false → IsNear g (body_frame question) → Serves start now g (body_frame question) bytes h → RespondsAlike start now g question bytes h
 responds_alike start now g Ping bytes h askable known quiet near serves =
-    let own = own_as_before start now g h (body_frame Ping) PingCommand bytes known quiet no_subscribe_ping ping_read serves in
-    record { responds = alike start now g (command_of (body_frame Ping)) PingCommand PingCommand bytes own.0 h ping_read refl own.2 own.1; same = own.3 }
+    let value = body_frame Ping in
+    let own = own_as_before start now g h value PingCommand bytes known quiet no_subscribe_ping (known_too value PingCommand ping_read) serves in
+    record { responds = alike start now g (command_of value) PingCommand PingCommand bytes h ping_read refl own.0; same = own.1 }
 responds_alike start now g (Ask m addr epoch candidate) bytes h askable known quiet near serves =
     let command = IsMasterDownByAddr addr epoch candidate in
     let value = body_frame (Ask m addr epoch candidate) in
     let read : command_of value ≡ Ok command = ask_again addr epoch candidate askable.0 askable.1 askable.2 in
-    let own = own_as_before start now g h value command bytes known quiet (λ e. let no : ⊥ = cc in no) read serves in
+    let own = own_as_before start now g h value command bytes known quiet (λ e. let no : ⊥ = cc in no) (known_too value command read) serves in
     let same_command = by_ok (heard g.asker.current command) command (ap (heard_as g.asker.current) (sym read) ∙ (near ∙ read)) in
-    record { responds = alike start now g (command_of value) command (heard g.asker.current command) bytes own.0 h read same_command own.2 own.1; same = own.3 }
+    record { responds = alike start now g (command_of value) command (heard g.asker.current command) bytes h read same_command own.0; same = own.1 }
 responds_alike start now g (Answer n addr down leader voted) bytes h askable known quiet near serves = absurd askable
 responds_alike start now g (PingText is_error text) bytes h askable known quiet near serves = absurd askable
 responds_alike start now g InfoAsk bytes h askable known quiet near serves = absurd askable
@@ -101,6 +101,7 @@ responds_alike start now g (InfoText info) bytes h askable known quiet near serv
 responds_alike start now g (Publish hello) bytes h askable known quiet near serves = absurd askable
 responds_alike start now g (HelloText hello) bytes h askable known quiet near serves = absurd askable
 responds_alike start now g (ReplicaOf to) bytes h askable known quiet near serves = absurd askable
+responds_alike start now g (HandOver heir) bytes h askable known quiet near serves = absurd askable
 responds_alike start now g (AddressAsk name) bytes h askable known quiet near serves = absurd askable
 responds_alike start now g (AddressAnswer shown) bytes h askable known quiet near serves = absurd askable
 responds_alike start now g (PortReply shown text) bytes h askable known quiet near serves = absurd askable

@@ -12,7 +12,7 @@ use Rattle.ballot_law.specs.declared.events.Event.{Event}
 use Rattle.ballot_law.specs.declared.events.Event.TheVariants.{Answered as AnswerCame, Pinged}
 use Rattle.ballot_law.specs.declared.events.Input.{Input}
 use Rattle.ballot_law.specs.declared.messages.Body.{Body}
-use Rattle.ballot_law.specs.declared.messages.Body.TheVariants.{Ask, Answer, Ping, PingText, InfoAsk, InfoText, Publish, HelloText, ReplicaOf, AddressAsk, AddressAnswer, PortReply, RoleAsk, RoleText, Done}
+use Rattle.ballot_law.specs.declared.messages.Body.TheVariants.{Ask, Answer, Ping, PingText, InfoAsk, InfoText, Publish, HelloText, ReplicaOf, HandOver, AddressAsk, AddressAnswer, PortReply, RoleAsk, RoleText, Done}
 use Rattle.ballot_law.specs.declared.messages.NodeName.{NodeName}
 use Rattle.ballot_law.specs.declared.messages.NodeName.TheVariants.{SentinelAt}
 use Rattle.ballot_law.specs.declared.messages.Output.TheVariants.{Send}
@@ -209,6 +209,7 @@ replied_to start asker now p InfoAsk bytes q askable silent r = absurd askable
 replied_to start asker now p (InfoText info) bytes q askable silent r = absurd askable
 replied_to start asker now p (Publish hello) bytes q askable silent r = absurd askable
 replied_to start asker now p (HelloText hello) bytes q askable silent r = absurd askable
+replied_to start asker now p (HandOver heir) bytes q askable silent r = absurd askable
 replied_to start asker now p (ReplicaOf to) bytes q askable silent r = absurd askable
 replied_to start asker now p (AddressAsk name) bytes q askable silent r = absurd askable
 replied_to start asker now p (AddressAnswer shown) bytes q askable silent r = absurd askable
@@ -233,6 +234,7 @@ question_spelled InfoAsk askable = absurd askable
 question_spelled (InfoText info) askable = absurd askable
 question_spelled (Publish hello) askable = absurd askable
 question_spelled (HelloText hello) askable = absurd askable
+question_spelled (HandOver heir) askable = absurd askable
 question_spelled (ReplicaOf to) askable = absurd askable
 question_spelled (AddressAsk name) askable = absurd askable
 question_spelled (AddressAnswer shown) askable = absurd askable

@@ -1,5 +1,5 @@
 -- No line of an answer or a message holds a CR or LF, so what is written of them is as many values.
-use Rattle.std.proofs.Common.{◌≡◌, ◌≢◌, ◌==◌, ◌||◌, not, ℕ, List, [], ◌∷◌, ◌++◌, length, Bool, true, false, Option, None, Some, Result, Err, codes, refl, sym, subst, true≢false}
+use Rattle.std.proofs.Common.{◌≡◌, ◌≢◌, ◌==◌, ◌||◌, not, ℕ, List, [], ◌∷◌, ◌++◌, length, Bool, true, false, Option, None, Some, Result, Err, codes, refl, sym, ap, ◌∙◌, ◌⊎◌, inl, inr, subst, true≢false}
 use Rattle.std.specs.Prelude.{if◌then◌else◌}
 use Rattle.std.specs.List.{list_all}
 use Rattle.std.proofs.lemmas.Bool.{and_parts}
@@ -9,7 +9,8 @@ use Rattle.ballot_law.specs.Words.{lower}
 use Rattle.resp2.specs.declared.command.CommandFault.{CommandFault}
 use Rattle.resp2.specs.declared.command.CommandFault.TheVariants.{NotACommand, UnknownCommand}
 use Rattle.resp2.specs.Commands as commands
-use Rattle.resp2.specs.Commands.{Entry, called_in, subcommands, sentinel_command, command_of_words, are_bulk, words}
+use Rattle.resp2.specs.Commands.{Entry, called_in, subcommands, sentinel_command, command_of_words, redis_command_of_words, are_bulk, words}
+use Rattle.resp2.proofs.Switches.{IsSwitch, switch_or_not}
 use Rattle.resp2.specs.Framing.Frame.{Frame, FrameList, frame, simple, fault, int, bulk, null_bulk, items, null_items, IsLine, HasLines, HaveLines}
 use Rattle.pubsub.specs.declared.fault.ChannelFault.{ChannelFault}
 use Rattle.pubsub.specs.declared.fault.ChannelFault.TheVariants.{NameTooLong, TooManyChannels, TooManyPatterns, NoMemory}
@@ -150,13 +151,23 @@ no_verb false false false true e h = absurd (cc)
 no_verb false false false false true h = absurd (cc)
 no_verb false false false false false h = (refl, refl)
 
-own_name_line : (name : List ℕ) (rest : List (List ℕ)) → verb_of name ≡ None → is_own (command_of_words (name ∷ rest)) ≡ true
+plain_name_line : (name : List ℕ) (rest : List (List ℕ)) → verb_of name ≡ None → is_own (command_of_words (name ∷ rest)) ≡ true
     → IsLine (lower (second (name ∷ rest)))
-own_name_line name rest e h =
+plain_name_line name rest e h =
     let tests = no_verb (is_called (codes "subscribe") name) (is_called (codes "unsubscribe") name) (is_called (codes "psubscribe") name)
     (is_called (codes "punsubscribe") name) (is_called (codes "ping") name) e in
     second_line name rest (commands.is_called (codes "ping") name) (commands.is_called (codes "sentinel") name) (commands.is_called (codes "subscribe") name) _ _
     tests.1 tests.0 h
+
+-- nor is SENTINEL FAILOVER
+own_name_line : (name : List ℕ) (rest : List (List ℕ)) → verb_of name ≡ None → is_own (redis_command_of_words (name ∷ rest)) ≡ true
+    → IsLine (lower (second (name ∷ rest)))
+own_name_line name rest e h = at (switch_or_not name rest)
+  where
+    at : IsSwitch name rest ⊎ (redis_command_of_words (name ∷ rest) ≡ command_of_words (name ∷ rest)) → IsLine (lower (second (name ∷ rest)))
+    at (inl it) =
+        subst (λ (t : List ℕ). IsLine t) (sym (ap (λ (ws : List (List ℕ)). lower (second (name ∷ ws))) it.rest_is ∙ it.wanted)) (checked (codes "failover") refl)
+    at (inr same) = plain_name_line name rest e (sym (ap (λ (asked : Result Command CommandFault). is_own asked) same) ∙ h)
 
 -- ---- answers
 
@@ -209,16 +220,16 @@ own_lines true words l h =
     where_lines (is_listening l) (said (one (not_while_listening (lower (second words)))) l) (refused_line (lower (second words)) (h refl), tt)
 
 known_lines : (name : List ℕ) (rest : List (List ℕ)) (l : Listening) (verb : Option Verb) → verb_of name ≡ verb
-    → AreAnswerLines (known verb rest (own (is_own (command_of_words (name ∷ rest))) (name ∷ rest) l) l)
-known_lines name rest l None e = own_lines (is_own (command_of_words (name ∷ rest))) (name ∷ rest) l (λ h. own_name_line name rest e h)
+    → AreAnswerLines (known verb rest (own (is_own (redis_command_of_words (name ∷ rest))) (name ∷ rest) l) l)
+known_lines name rest l None e = own_lines (is_own (redis_command_of_words (name ∷ rest))) (name ∷ rest) l (λ h. own_name_line name rest e h)
 known_lines name rest l (Some verb) e = executed_lines verb rest l
 
-words_lines : (words : List (List ℕ)) (l : Listening) → AreAnswerLines (answer_words (is_own (command_of_words words)) words l)
+words_lines : (words : List (List ℕ)) (l : Listening) → AreAnswerLines (answer_words (is_own (redis_command_of_words words)) words l)
 words_lines [] l = tt
 words_lines (name ∷ rest) l = known_lines name rest l (verb_of name) refl
 
 items_lines : (test : Bool) (ws : List (List ℕ)) (l : Listening)
-    → AreAnswerLines (elim test as (λ _. Answer) [ true ↦ answer_words (is_own (if test then command_of_words ws else Err NotACommand)) ws l | false ↦ other ])
+    → AreAnswerLines (elim test as (λ _. Answer) [ true ↦ answer_words (is_own (if test then redis_command_of_words ws else Err NotACommand)) ws l | false ↦ other ])
 items_lines true ws l = words_lines ws l
 items_lines false ws l = tt
 

@@ -1,16 +1,17 @@
 -- What Pub/Sub makes of the commands of a Sentinel's rules.
-use Rattle.std.proofs.Common.{◌≡◌, ◌≢◌, ◌⊎◌, inl, inr, ℕ, List, [], ◌∷◌, Bool, true, false, Option, None, Some, Result, Ok, Err, refl, ap, ◌∙◌}
+use Rattle.std.proofs.Common.{◌≡◌, ◌≢◌, ◌⊎◌, inl, inr, ℕ, List, [], ◌∷◌, Bool, true, false, Option, None, Some, Result, Ok, Err, refl, sym, ap, ◌∙◌}
 use Rattle.std.specs.Prelude.{bytes_eq, codes, if◌then◌else◌}
 use Rattle.std.proofs.lemmas.Slice.Eq.{bytes_eq-Decides}
 use Rattle.ballot_law.specs.declared.commands.Command.{Command}
-use Rattle.ballot_law.specs.declared.commands.Command.TheVariants.{Ping, IsMasterDownByAddr, GetMasterAddrByName, Masters, Master, Replicas, Sentinels, MyId, CkQuorum, FlushConfig, Subscribe}
+use Rattle.ballot_law.specs.declared.commands.Command.TheVariants.{Ping, IsMasterDownByAddr, GetMasterAddrByName, Masters, Master, Replicas, Sentinels, MyId, CkQuorum, Failover, FlushConfig, Subscribe}
 use Rattle.ballot_law.specs.Results.{◌>>=◌, wanted}
 use Rattle.ballot_law.specs.Words.{lower, canonical_within, canonical_address}
 use Rattle.ballot_law.specs.declared.cards.TheConstants.{MAX_EPOCH}
 use Rattle.resp2.specs.declared.command.CommandFault.{CommandFault}
 use Rattle.resp2.specs.declared.command.CommandFault.TheVariants.{NotACommand, UnknownCommand, BadAddress, BadEpoch, BadRunId, UnknownChannel}
 use Rattle.resp2.specs.Commands as commands
-use Rattle.resp2.specs.Commands.{Entry, are_bulk, words, alone, about_master, master_of, candidate, is_master_down_by_addr, called_in, subcommands, sentinel_command, subscribe, channel, command_of_words, command_of}
+use Rattle.resp2.specs.Commands.{Entry, are_bulk, words, alone, about_master, master_of, candidate, is_master_down_by_addr, called_in, subcommands, sentinel_command, subscribe, channel, command_of_words, redis_command_of_words, redis_command_of}
+use Rattle.resp2.proofs.Switches.{IsSwitch, switch_or_not}
 use Rattle.resp2.specs.Framing.Frame.{Frame, FrameList, simple, fault, int, bulk, null_bulk, items, null_items}
 use Rattle.pubsub.specs.declared.fault.ChannelFault.{ChannelFault}
 use Rattle.pubsub.specs.declared.kind.Kind.{Kind}
@@ -137,9 +138,16 @@ case_at false false true name args command is_ping is_sentinel is_subscribe h =
     inr (inr ((bytes_eq-Decides (lower name) (codes "subscribe")).0 is_subscribe, subscribes args command h))
 case_at false false false name args command is_ping is_sentinel is_subscribe h = absurd (let no : ⊥ = cc in no)
 
-case_of : (name : List ℕ) (args : Words) (command : Command) → command_of_words (name ∷ args) ≡ Ok command → Case name args command
-case_of name args command h =
+plain_case : (name : List ℕ) (args : Words) (command : Command) → command_of_words (name ∷ args) ≡ Ok command → Case name args command
+plain_case name args command h =
     case_at (bytes_eq (lower name) (codes "ping")) (bytes_eq (lower name) (codes "sentinel")) (bytes_eq (lower name) (codes "subscribe")) name args command refl refl refl h
+
+case_of : (name : List ℕ) (args : Words) (command : Command) → redis_command_of_words (name ∷ args) ≡ Ok command → Case name args command
+case_of name args command h = at (switch_or_not name args)
+  where
+    at : IsSwitch name args ⊎ (redis_command_of_words (name ∷ args) ≡ command_of_words (name ∷ args)) → Case name args command
+    at (inl it) = inr (inl (it.named, about_never Failover (λ n e. let no : ⊥ = cc in no) it.args command (sym it.judged ∙ h)))
+    at (inr same) = plain_case name args command (sym same ∙ h)
 
 -- the command of Pub/Sub by its name in small letters
 abbrev verb_by : List ℕ → Option Verb
@@ -170,26 +178,26 @@ record IsWords (fs : FrameList) (command : Command) : Type 0 where
   are : words fs ≡ name ∷ args
   case : Case name args command
 
-words_at : (ws : Words) (command : Command) → command_of_words ws ≡ Ok command → (name : List ℕ) × (args : Words) × (ws ≡ name ∷ args) × Case name args command
+words_at : (ws : Words) (command : Command) → redis_command_of_words ws ≡ Ok command → (name : List ℕ) × (args : Words) × (ws ≡ name ∷ args) × Case name args command
 words_at [] command h = absurd (let no : ⊥ = cc in no)
 words_at (name ∷ args) command h = (name, args, refl, case_of name args command h)
 
-bulk_at : (b : Bool) (ws : Words) (command : Command) → (if b then command_of_words ws else Err NotACommand) ≡ Ok command
-    → (b ≡ true) × (command_of_words ws ≡ Ok command)
+bulk_at : (b : Bool) (ws : Words) (command : Command) → (if b then redis_command_of_words ws else Err NotACommand) ≡ Ok command
+    → (b ≡ true) × (redis_command_of_words ws ≡ Ok command)
 bulk_at true ws command h = (refl, h)
 bulk_at false ws command h = absurd (let no : ⊥ = cc in no)
 
-words_are : (fs : FrameList) (command : Command) → command_of (items fs) ≡ Ok command → IsWords fs command
+words_are : (fs : FrameList) (command : Command) → redis_command_of (items fs) ≡ Ok command → IsWords fs command
 words_are fs command h =
     let bulks = bulk_at (are_bulk fs) (words fs) command h in
     let it = words_at (words fs) command bulks.1 in
     record { name = it.0; args = it.1; bulk_words = bulks.0; are = it.2; case = it.3 }
 
-answer_is : (fs : FrameList) (command : Command) (l : Listening) (w : IsWords fs command) → command_of (items fs) ≡ Ok command
+answer_is : (fs : FrameList) (command : Command) (l : Listening) (w : IsWords fs command) → redis_command_of (items fs) ≡ Ok command
     → answer (items fs) l ≡ known (verb_of w.name) w.args (own true (w.name ∷ w.args) l) l
 answer_is fs command l w h =
-    ap (λ (b : Bool). elim b as (λ _. Answer) [ true ↦ answer_words (is_own (command_of (items fs))) (words fs) l | false ↦ other ]) w.bulk_words
-    ∙ ap (λ (ws : Words). answer_words (is_own (command_of (items fs))) ws l) w.are
+    ap (λ (b : Bool). elim b as (λ _. Answer) [ true ↦ answer_words (is_own (redis_command_of (items fs))) (words fs) l | false ↦ other ]) w.bulk_words
+    ∙ ap (λ (ws : Words). answer_words (is_own (redis_command_of (items fs))) ws l) w.are
     ∙ ap (λ (r : Result Command CommandFault). known (verb_of w.name) w.args (own (is_own r) (w.name ∷ w.args) l) l) h
 
 subscribed_said : (kind : Kind) (more : Words) (l : Listening) (refused : Option ChannelFault) → IsSaid (subscribed kind more l refused)
@@ -245,7 +253,7 @@ said_subscribe name args l (inr (inr c)) = subscribe_at name args (own true (nam
 -- ---- for any value
 
 -- SUBSCRIBE is answered by Pub/Sub
-pub subscribe_is_said : (value : Frame) (l : Listening) → command_of value ≡ Ok Subscribe → IsSaid (answer value l)
+pub subscribe_is_said : (value : Frame) (l : Listening) → redis_command_of value ≡ Ok Subscribe → IsSaid (answer value l)
 subscribe_is_said (items fs) l h =
     let w = words_are fs Subscribe h in
     said_as (answer (items fs) l) _ (answer_is fs Subscribe l w h) (said_subscribe w.name w.args l w.case)
@@ -257,7 +265,7 @@ subscribe_is_said null_bulk l h = absurd (let no : ⊥ = cc in no)
 subscribe_is_said null_items l h = absurd (let no : ⊥ = cc in no)
 
 -- while the connection listens, so is every command
-pub own_is_said : (value : Frame) (command : Command) (l : Listening) → is_listening l ≡ true → command_of value ≡ Ok command → IsSaid (answer value l)
+pub own_is_said : (value : Frame) (command : Command) (l : Listening) → is_listening l ≡ true → redis_command_of value ≡ Ok command → IsSaid (answer value l)
 own_is_said (items fs) command l listens h =
     let w = words_are fs command h in
     said_as (answer (items fs) l) _ (answer_is fs command l w h) (said_at w.name w.args command l listens w.case)
@@ -269,7 +277,7 @@ own_is_said null_bulk command l listens h = absurd (let no : ⊥ = cc in no)
 own_is_said null_items command l listens h = absurd (let no : ⊥ = cc in no)
 
 -- while it doesn't, no other command is
-pub own_is_other : (value : Frame) (command : Command) (l : Listening) → is_listening l ≡ false → command ≢ Subscribe → command_of value ≡ Ok command → answer value l ≡ other
+pub own_is_other : (value : Frame) (command : Command) (l : Listening) → is_listening l ≡ false → command ≢ Subscribe → redis_command_of value ≡ Ok command → answer value l ≡ other
 own_is_other (items fs) command l silent not h =
     let w = words_are fs command h in
     answer_is fs command l w h ∙ other_at w.name w.args command l silent not w.case

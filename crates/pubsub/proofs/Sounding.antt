@@ -5,7 +5,7 @@ use Rattle.std.specs.List.{list_any, filter}
 use Rattle.std.proofs.lemmas.Bool.{ltb-false}
 use Rattle.std.proofs.lemmas.List.Folds.{list_any-append}
 use Rattle.std.proofs.lemmas.Slice.Eq.{bytes_eq-Decides}
-use Rattle.resp2.specs.Commands.{are_bulk, words, command_of}
+use Rattle.resp2.specs.Commands.{are_bulk, words, redis_command_of}
 use Rattle.resp2.specs.Framing.Frame.{Frame, FrameList, frame, no_frames, simple, fault, int, bulk, null_bulk, items, null_items}
 use Rattle.pubsub.specs.declared.fault.ChannelFault.{ChannelFault}
 use Rattle.pubsub.specs.declared.fault.ChannelFault.TheVariants.{NameTooLong}
@@ -186,7 +186,7 @@ answer_sound (bulk bytes) l h = h
 answer_sound null_bulk l h = h
 answer_sound null_items l h = h
 answer_sound (items fs) l h =
-    where_sound (are_bulk fs) l (answer_words (is_own (command_of (items fs))) (words fs) l) h (words_sound (is_own (command_of (items fs))) (words fs) l h)
+    where_sound (are_bulk fs) l (answer_words (is_own (redis_command_of (items fs))) (words fs) l) h (words_sound (is_own (redis_command_of (items fs))) (words fs) l h)
 
 pub nothing_sound : IsSound (record { channels = []; patterns = [] })
 nothing_sound = record { channels = none_sound; patterns = none_sound }

@@ -5,7 +5,7 @@ use Rattle.ballot_law.specs.Words.{lower}
 use Rattle.resp2.specs.declared.command.CommandFault.{CommandFault}
 use Rattle.resp2.specs.declared.command.CommandFault.TheVariants.{NotACommand, UnknownCommand, WrongArguments}
 use Rattle.resp2.specs.Commands as commands
-use Rattle.resp2.specs.Commands.{are_bulk, words, command_of}
+use Rattle.resp2.specs.Commands.{are_bulk, words, redis_command_of}
 use Rattle.resp2.specs.Framing.Frame.{Frame, FrameList, fault, bulk, items, no_frames, frame, frames_of, spellings}
 use Rattle.pubsub.specs.declared.answers.Turn.{Turn}
 use Rattle.pubsub.specs.declared.answers.Turn.TheVariants.{Other, Said}
@@ -136,7 +136,7 @@ answer_words is_of_rules [] l = other
 answer_words is_of_rules (name ∷ rest) l = known (verb_of name) rest (own is_of_rules (name ∷ rest) l) l
 
 abbrev pub answer : Frame → Listening → Answer
-answer (items fs) l = elim (are_bulk fs) [ true ↦ answer_words (is_own (command_of (items fs))) (words fs) l | false ↦ other ]
+answer (items fs) l = elim (are_bulk fs) [ true ↦ answer_words (is_own (redis_command_of (items fs))) (words fs) l | false ↦ other ]
 answer value l = other
 
 -- ---- an answer as it is handed out

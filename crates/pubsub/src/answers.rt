@@ -10,7 +10,7 @@ use crate::subscriptions::Subscriptions;
 use crate::verb::{Verb, verb_of};
 use crate::words_in::{are_bulk, is_own, lower_second, words_of};
 use ballot_law::{NoMemory, Text};
-use resp2::{OutText, Value, command_of, push_bulk};
+use resp2::{OutText, Value, push_bulk, redis_command_of};
 
 /// What becomes of a value.
 #[derive(Clone, Copy, Debug, PartialEq, Eq)]
@@ -223,7 +223,7 @@ impl Subscriptions {
         if !self.may_answer(items.as_slice()) || !are_bulk(items.as_slice()) {
             return Ok(Turn::Other);
         }
-        let is_of_rules = is_own(&command_of(value));
+        let is_of_rules = is_own(&redis_command_of(value));
         let words = words_of(self.alloc(), items.as_slice())?;
         self.answer_words(is_of_rules, words.as_slice(), out)
     }

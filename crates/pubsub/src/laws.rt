@@ -4,7 +4,7 @@ ghost use Rattle.std.specs.Prelude.{◌≡◌, ◌≢◌, ℕ, List, [], false, 
 ghost use Rattle.std.specs.List.{list_any};
 ghost use Rattle.ballot_law.specs.declared.commands.Command.{Command};
 ghost use Rattle.ballot_law.specs.declared.commands.Command.TheVariants.{Subscribe};
-ghost use Rattle.resp2.specs.Commands.{command_of};
+ghost use Rattle.resp2.specs.Commands.{redis_command_of};
 ghost use Rattle.resp2.specs.Framing.Frame.{Frame, FrameList, HaveLines, no_frames};
 ghost use Rattle.pubsub.specs.Globs.{matches};
 ghost use Rattle.pubsub.specs.Listening.{Listening, holds, is_listening};
@@ -34,8 +34,9 @@ pub fn law_answers_are_values()
 /// A command of a Sentinel's rules is left to them by a connection that doesn't listen, unless it is SUBSCRIBE, and is
 /// answered by Pub/Sub where it listens; SUBSCRIBE is answered by Pub/Sub in any case.
 pub fn law_own_commands()
-    ensures left { (value : Frame) (command : Command) (l : Listening) → is_listening l ≡ false → command ≢ Subscribe → command_of value ≡ Ok command
-        → answer value l ≡ other }
-    ensures listens { (value : Frame) (command : Command) (l : Listening) → is_listening l ≡ true → command_of value ≡ Ok command → IsSaid (answer value l) }
-    ensures subscribes { (value : Frame) (l : Listening) → command_of value ≡ Ok Subscribe → IsSaid (answer value l) }
+    ensures left { (value : Frame) (command : Command) (l : Listening) → is_listening l ≡ false → command ≢ Subscribe
+        → redis_command_of value ≡ Ok command → answer value l ≡ other }
+    ensures listens { (value : Frame) (command : Command) (l : Listening) → is_listening l ≡ true
+        → redis_command_of value ≡ Ok command → IsSaid (answer value l) }
+    ensures subscribes { (value : Frame) (l : Listening) → redis_command_of value ≡ Ok Subscribe → IsSaid (answer value l) }
 {}

@@ -4,4 +4,5 @@ pub mod AskFrames
 pub mod Asks
 pub mod Found
 pub mod Streams
+pub mod Switches
 pub mod FramingLemmas

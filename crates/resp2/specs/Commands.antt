@@ -4,7 +4,7 @@ use Rattle.ballot_law.specs.declared.addresses.Addr.{Addr}
 use Rattle.ballot_law.specs.declared.addresses.RunId.{RunId}
 use Rattle.ballot_law.specs.declared.cards.TheConstants.{MAX_EPOCH}
 use Rattle.ballot_law.specs.declared.commands.Command.{Command}
-use Rattle.ballot_law.specs.declared.commands.Command.TheVariants.{Ping, IsMasterDownByAddr, GetMasterAddrByName, Masters, Master, Replicas, Sentinels, MyId, CkQuorum, FlushConfig, Subscribe}
+use Rattle.ballot_law.specs.declared.commands.Command.TheVariants.{Ping, IsMasterDownByAddr, GetMasterAddrByName, Masters, Master, Replicas, Sentinels, MyId, CkQuorum, Failover, FlushConfig, Subscribe}
 use Rattle.ballot_law.specs.Hellos.{IsRunId}
 use Rattle.ballot_law.specs.Results.{◌>>=◌, wanted}
 use Rattle.ballot_law.specs.Words.{then_some, canonical_within, canonical_address, run_id, name, lower, ip_text, id_text}
@@ -114,6 +114,21 @@ command_of_words (name ∷ args) = called_in commands name args
 abbrev pub command_of : Frame → Result Command CommandFault
 command_of (items fs) = if are_bulk fs then command_of_words (words fs) else Err NotACommand
 command_of _ = Err NotACommand
+
+-- ---- the commands of a port that knows one more
+
+-- the words behind SENTINEL FAILOVER
+abbrev pub switch_words : List (List ℕ) → Option (List (List ℕ))
+switch_words (name ∷ word ∷ args) = if is_called (codes "sentinel") name && is_called (codes "failover") word then Some args else None
+switch_words _ = None
+
+-- SENTINEL FAILOVER, and the commands above
+abbrev pub redis_command_of_words : List (List ℕ) → Result Command CommandFault
+redis_command_of_words words = elim (switch_words words) [ None ↦ command_of_words words | Some args ↦ about_master Failover args ]
+
+abbrev pub redis_command_of : Frame → Result Command CommandFault
+redis_command_of (items fs) = if are_bulk fs then redis_command_of_words (words fs) else Err NotACommand
+redis_command_of _ = Err NotACommand
 
 -- ---- the spelling of an ask
 

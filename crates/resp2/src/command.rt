@@ -1,5 +1,5 @@
 //! The commands of a Sentinel's port, as values.
-ghost use Rattle.std.specs.Prelude.{◌≡◌, ◌∷◌, [], IfOk};
+ghost use Rattle.std.specs.Prelude.{◌≡◌, ◌∷◌, [], IfOk, option_map};
 ghost use Rattle.ballot_law.specs.Words.{name, lower};
 ghost use Rattle.resp2.specs.Asked.{IsCommon};
 ghost use Rattle.ballot_law.specs.Limits.{IsWithin};
@@ -237,6 +237,47 @@ pub fn command_of(value: &Value) -> Result<Command, CommandFault>
 {
     match value {
         Value::Items(items) => command_of_items(items),
+        _ => Err(CommandFault::NotACommand),
+    }
+}
+
+/// The words behind SENTINEL FAILOVER, where these words begin so.
+fn switch_words(words: &[Value]) -> Option<&[Value]>
+    ensures { option_map (λ args. commands.words (frames_view args.now)) result ≡ commands.switch_words (commands.words (frames_view words.now)) }
+{
+    let [name, word, args @ ..] = words else {
+        return None;
+    };
+    if is_called(word_of(name), b"SENTINEL", b"sentinel")
+        && is_called(word_of(word), b"FAILOVER", b"failover")
+    {
+        Some(args)
+    } else {
+        None
+    }
+}
+
+fn redis_command_of_items(words: &[Value]) -> Result<Command, CommandFault>
+    ensures within { IfOk result IsWithin }
+    ensures command { result ≡ commands.redis_command_of (frames.items (frames_view words.now)) }
+{
+    if !are_bulk(words) {
+        return Err(CommandFault::NotACommand);
+    }
+    match switch_words(words) {
+        Some(args) => Ok(Command::Failover(master_of(args)?)),
+        None => command_of_items(words),
+    }
+}
+
+/// The command that a value spells at a port of Redis's profile: it also knows `SENTINEL FAILOVER name`, which
+/// `command_of` calls unknown. All else is as there. No memory is taken.
+pub fn redis_command_of(value: &Value) -> Result<Command, CommandFault>
+    ensures command { result ≡ commands.redis_command_of (view value.now) }
+    ensures within { IfOk result IsWithin }
+{
+    match value {
+        Value::Items(items) => redis_command_of_items(items),
         _ => Err(CommandFault::NotACommand),
     }
 }

@@ -11,7 +11,7 @@ mod command_stream;
 mod framing;
 mod laws;
 
-pub use command::{CommandFault, command_of};
+pub use command::{CommandFault, command_of, redis_command_of};
 pub use command_stream::{next_command, next_common};
 pub use framing::{
     ByteSink, FrameFault, Frames, OutText, Unread, Value, law_fault_and_value_stay, law_faults,

@@ -3,11 +3,159 @@
 ghost use Rattle.std.specs.Prelude.{◌≤◌, vec_capacity};
 
 use crate::commands::{fault_of, value_of};
-use crate::given::{address, id, is_down, is_lost, number, number_32};
+use crate::given::{address, id, is_down, is_lost, maybe_id, number, number_32};
 use crate::told::{Told, Unplayed};
-use ballot_law::{ANSWER_MAX, Name};
-use port_answers::{AnswerText, MasterRow, ReplicaRow, SentinelRow};
+use ballot_law::{ANSWER_MAX, DataRole, Name};
+use port_answers::{
+    AnswerText, ContactRow, FailoverStage, LinkRow, MasterRow, ReplicaRow, SaidRow, SentinelRow,
+};
 use std::alloc::Global;
+
+/// What is told of no connection, and of no INFO.
+const NO_CONTACT: ContactRow = ContactRow {
+    ping_ms: 0,
+    valid_ms: 0,
+    reply_ms: 0,
+    down_ms: 0,
+};
+
+const NOTHING_SAID: SaidRow = SaidRow {
+    id: None,
+    info_ms: 0,
+    role: DataRole::Master,
+    role_ms: 0,
+};
+
+const NO_LINK: LinkRow = LinkRow {
+    down_ms: 0,
+    up: false,
+    master: None,
+    announced: true,
+};
+
+/// The times that these four words are: of a PING that waits, of the last valid reply, of the last one, and since when
+/// the node is down.
+fn contact(words: &[Vec<u8>]) -> Result<ContactRow, Unplayed> {
+    let [ping_ms, valid_ms, reply_ms, down_ms] = words else {
+        return Err(Unplayed::WrongWords);
+    };
+    Ok(ContactRow {
+        ping_ms: number(ping_ms)?,
+        valid_ms: number(valid_ms)?,
+        reply_ms: number(reply_ms)?,
+        down_ms: number(down_ms)?,
+    })
+}
+
+/// What the INFO of a node said that these four words are: its run id, when it came, its role and since when it has it.
+fn said(words: &[Vec<u8>]) -> Result<SaidRow, Unplayed> {
+    let [own_id, info_ms, role, role_ms] = words else {
+        return Err(Unplayed::WrongWords);
+    };
+    let role = match role.as_slice() {
+        b"master" => DataRole::Master,
+        b"slave" => DataRole::Replica,
+        _ => return Err(Unplayed::WrongWords),
+    };
+    Ok(SaidRow {
+        id: maybe_id(own_id)?,
+        info_ms: number(info_ms)?,
+        role,
+        role_ms: number(role_ms)?,
+    })
+}
+
+/// What a replica said of its master that these five words are: for how long its link has been down, whether it is up,
+/// the address, and whether it may be told to clients.
+fn link(words: &[Vec<u8>]) -> Result<LinkRow, Unplayed> {
+    let [down_ms, state, ip, port, announced] = words else {
+        return Err(Unplayed::WrongWords);
+    };
+    let is_known = ip.as_slice() != b"?".as_slice();
+    Ok(LinkRow {
+        down_ms: number(down_ms)?,
+        up: !is_down(state)?,
+        master: if is_known {
+            Some(address(ip, port)?)
+        } else {
+            None
+        },
+        announced: announced.as_slice() == b"1".as_slice(),
+    })
+}
+
+/// The stage of a failover with this name.
+fn stage(word: &[u8]) -> Result<FailoverStage, Unplayed> {
+    match word {
+        b"none" => Ok(FailoverStage::NoFailover),
+        b"votes" => Ok(FailoverStage::WaitStart),
+        b"choice" => Ok(FailoverStage::SelectReplica),
+        b"order" => Ok(FailoverStage::SendPromotion),
+        b"promotion" => Ok(FailoverStage::WaitPromotion),
+        b"others" => Ok(FailoverStage::ReconfReplicas),
+        b"end" => Ok(FailoverStage::UpdateConfig),
+        _ => Err(Unplayed::WrongWords),
+    }
+}
+
+/// Adds the master that the first eleven words are, in redis-sentinel's words: then come whether enough Sentinels find
+/// it down and since when, the stage of its failover, four words of its connection and four of its INFO.
+fn add_redis_master(answers: &mut AnswerText, words: &[Vec<u8>]) -> Result<(), Unplayed> {
+    if words.len() != 22 {
+        return Err(Unplayed::WrongWords);
+    }
+    let mut row = master(&words[..11])?;
+    row.odown = words[11].as_slice() == b"odown".as_slice();
+    row.odown_ms = number(&words[12])?;
+    row.stage = stage(&words[13])?;
+    row.failing_over = row.stage != FailoverStage::NoFailover;
+    row.contact = contact(&words[14..18])?;
+    row.said = said(&words[18..])?;
+    answers.add_redis_master(&row);
+    Ok(())
+}
+
+/// Adds a replica in redis-sentinel's words: its address, whether it is down, its priority and offset, after how long
+/// it is down, four words of its connection, four of its INFO and five of its master.
+fn add_redis_replica(answers: &mut AnswerText, words: &[Vec<u8>]) -> Result<(), Unplayed> {
+    if words.len() != 19 {
+        return Err(Unplayed::WrongWords);
+    }
+    answers.add_redis_replica(&ReplicaRow {
+        addr: address(&words[0], &words[1])?,
+        down: is_down(&words[2])?,
+        disconnected: is_lost(&words[2]),
+        priority: number(&words[3])?,
+        offset: number(&words[4])?,
+        after_ms: number(&words[5])?,
+        contact: contact(&words[6..10])?,
+        said: said(&words[10..14])?,
+        link: link(&words[14..])?,
+    });
+    Ok(())
+}
+
+/// Adds a Sentinel in redis-sentinel's words: its run id, its address, whether it is down, how many masters it watches,
+/// after how long it is down, when its last hello came, its last vote and the epoch of it, and four words of its
+/// connection.
+fn add_redis_sentinel(answers: &mut AnswerText, words: &[Vec<u8>]) -> Result<(), Unplayed> {
+    if words.len() != 13 {
+        return Err(Unplayed::WrongWords);
+    }
+    answers.add_redis_sentinel(&SentinelRow {
+        id: id(&words[0])?,
+        addr: address(&words[1], &words[2])?,
+        down: is_down(&words[3])?,
+        disconnected: is_lost(&words[3]),
+        masters: number(&words[4])?,
+        after_ms: number(&words[5])?,
+        hello_ms: number(&words[6])?,
+        leader: maybe_id(&words[7])?,
+        leader_epoch: number(&words[8])?,
+        contact: contact(&words[9..])?,
+    });
+    Ok(())
+}
 
 /// The master that these words are: its name, its address, whether it is down by all accounts and its failover runs,
 /// its quorum, and the numbers of its answer in their order.
@@ -46,6 +194,10 @@ fn master(words: &[Vec<u8>]) -> Result<MasterRow, Unplayed> {
         timeout: number(timeout)?,
         parallel_syncs: number(parallel_syncs)?,
         epoch: number(epoch)?,
+        odown_ms: 0,
+        stage: FailoverStage::NoFailover,
+        contact: NO_CONTACT,
+        said: NOTHING_SAID,
     })
 }
 
@@ -62,6 +214,10 @@ fn add_replicas(answers: &mut AnswerText, words: &[Vec<u8>]) -> Result<(), Unpla
             disconnected: is_lost(state),
             priority: number(priority)?,
             offset: number(offset)?,
+            after_ms: 0,
+            contact: NO_CONTACT,
+            said: NOTHING_SAID,
+            link: NO_LINK,
         });
     }
     Ok(())
@@ -79,6 +235,12 @@ fn add_sentinels(answers: &mut AnswerText, words: &[Vec<u8>]) -> Result<(), Unpl
             addr: address(ip, port)?,
             down: is_down(state)?,
             disconnected: is_lost(state),
+            masters: 1,
+            after_ms: 0,
+            hello_ms: 0,
+            leader: None,
+            leader_epoch: 0,
+            contact: NO_CONTACT,
         });
     }
     Ok(())
@@ -95,6 +257,13 @@ fn add(
         ("add_master", words) => answers.add_master(&master(words)?),
         ("add_replicas", words) => add_replicas(answers, words)?,
         ("add_sentinels", words) => add_sentinels(answers, words)?,
+        ("add_redis_master", words) => add_redis_master(answers, words)?,
+        ("add_redis_replica", words) => add_redis_replica(answers, words)?,
+        ("add_redis_sentinel", words) => add_redis_sentinel(answers, words)?,
+        ("add_redis_quorum_reached", [usable]) => answers.add_redis_quorum_reached(number(usable)?),
+        ("add_redis_no_quorum", [usable, quorum, sentinels]) => {
+            answers.add_redis_no_quorum(number(usable)?, number(quorum)?, number(sentinels)?);
+        }
         ("add_no_such_master", []) => answers.add_no_such_master(),
         ("add_ok", []) => answers.add_ok(),
         ("add_quorum_reached", [usable]) => answers.add_quorum_reached(number(usable)?),

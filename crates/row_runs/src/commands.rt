@@ -36,6 +36,7 @@ pub(crate) fn tell_command(command: &Command, told: &mut Told) -> Result<(), Unp
         Command::Sentinels(master) => tell_named("Sentinels", master, told),
         Command::MyId => told.word("MyId"),
         Command::CkQuorum(master) => tell_named("CkQuorum", master, told),
+        Command::Failover(master) => tell_named("Failover", master, told),
         Command::FlushConfig => told.word("FlushConfig"),
         Command::Subscribe => told.word("Subscribe"),
     }

@@ -10,6 +10,7 @@ use courteous_sessions::ClientSession;
 use sentinel_cell::{CellFault, Seat, SharedSentinel};
 use sentinel_conf::{MemoryStore, read};
 use sentinel_core::{Sentinel, ServeFault};
+use sentinel_rules::Profile;
 use std::alloc::Global;
 use std::sync::Wait;
 use tokens::run_id_text;
@@ -36,24 +37,31 @@ fn shared(
     alloc: Global,
     file: &[u8],
     refuses: bool,
+    courteous: bool,
 ) -> Result<(SharedSentinel<MemoryStore>, Seat), Unplayed>
     ensures { IfOk result (λ r. r.1.cell ≡ r.0.id) }
 {
     let store = store(alloc, file, refuses)?;
-    match SharedSentinel::new(alloc, opened(alloc, file)?, store, 1) {
+    let sentinel = opened(alloc, file, courteous)?;
+    match SharedSentinel::new(alloc, sentinel, store, 1) {
         Ok(shared) => Ok(shared),
         Err(_) => Err(Unplayed::NoMemory),
     }
 }
 
-/// A Sentinel that opens with this file, at clock 0.
-fn opened(alloc: Global, file: &[u8]) -> Result<Sentinel, Unplayed>
+/// A Sentinel that opens with this file, at clock 0, by the rules of Redis where its port has courtesies.
+fn opened(alloc: Global, file: &[u8], courteous: bool) -> Result<Sentinel, Unplayed>
     ensures { IfOk result (λ sentinel. sentinel.phase ≡ Ready) }
 {
     let Ok(conf) = read(alloc, file) else {
         return Err(Unplayed::NoMemory);
     };
-    match Sentinel::open(alloc, conf, 0) {
+    let profile = if courteous {
+        Profile::Redis
+    } else {
+        Profile::Strict
+    };
+    match Sentinel::open_as(alloc, conf, profile, 0) {
         Ok(sentinel) => Ok(sentinel),
         Err(_) => Err(Unplayed::NoMemory),
     }
@@ -62,7 +70,8 @@ fn opened(alloc: Global, file: &[u8]) -> Result<Sentinel, Unplayed>
 /// Tells the share of the first seat of a Sentinel that is shared by this number of seats, or why it isn't shared so.
 fn tell_seats(alloc: Global, file: &[u8], seats: u64, told: &mut Told) -> Result<(), Unplayed> {
     let store = store(alloc, file, false)?;
-    match SharedSentinel::new(alloc, opened(alloc, file)?, store, seats) {
+    let sentinel = opened(alloc, file, false)?;
+    match SharedSentinel::new(alloc, sentinel, store, seats) {
         Ok((_, seat)) => told.number(seat.share()),
         Err((_, CellFault::NoMemory)) => Err(Unplayed::NoMemory),
         Err((_, fault)) => told.shown(&fault),
@@ -110,7 +119,7 @@ impl Talk {
         refuses: bool,
         courteous: bool,
     ) -> Result<Box<Talk>, Unplayed> {
-        let (cell, seat) = shared(alloc, file, refuses)?;
+        let (cell, seat) = shared(alloc, file, refuses, courteous)?;
         let talk = Talk {
             alloc,
             cell,

@@ -5,21 +5,77 @@ ghost use Rattle.resp2.specs.Framing.Frame.{view, HasLines};
 use crate::commands::{array, tell_command, value_of};
 use crate::given::number_32;
 use crate::told::{Told, Unplayed};
-use ballot_law::{Name, Text};
+use ballot_law::{Addr, Name, RunId, Text};
 use client_commands::{
-    ClientInfo, CommandReader, Courtesy, MonitoredMaster, courtesy_of, info, wide,
+    ClientEntry, ClientInfo, CommandReader, Courtesy, Figures, MonitoredMaster, PortFacts,
+    courtesy_of, info,
 };
 use resp2::{FrameFault, OutText, Value, write_value};
 use std::alloc::Global;
 
-/// The master `mymaster` with this quorum.
-fn mymaster(alloc: Global, quorum: u32) -> Result<Vec<MonitoredMaster>, Unplayed> {
+/// The master `mymaster`.
+fn mymaster(alloc: Global) -> Result<Vec<MonitoredMaster>, Unplayed> {
     let mut masters = Vec::new(alloc);
     let Some(name) = Name::from_slice(b"mymaster") else {
         return Err(Unplayed::WrongWords);
     };
-    masters.push(MonitoredMaster { name, quorum })?;
+    masters.push(MonitoredMaster { name, nodes: 3 })?;
     Ok(masters)
+}
+
+/// A client of the port, with this number, from this port of 127.0.0.1, at this place.
+fn client(
+    alloc: Global,
+    id: u64,
+    address: &[u8],
+    place: usize,
+    channels: u32,
+) -> Result<ClientEntry, Unplayed> {
+    Ok(ClientEntry {
+        id,
+        address: Text::from_slice(alloc, address)?,
+        local: Text::from_slice(alloc, b"127.0.0.1:26379")?,
+        name: Text::from_slice(alloc, b"other")?,
+        came: 60_000,
+        heard: 99_500,
+        channels,
+        patterns: 0,
+        place,
+        gone: false,
+    })
+}
+
+/// What the port of that connection knows: the connection itself, one that listens to two channels, another one, and
+/// one that is gone.
+fn port(alloc: Global) -> Result<PortFacts, Unplayed> {
+    let figures = Figures {
+        process: 4_711,
+        run_id: RunId { hi: 1, lo: 2 },
+        address: Addr {
+            ip: 2_130_706_433,
+            port: 26_379,
+        },
+        clock: 100_000_999,
+        connected: 3,
+        most: 10_000,
+        received: 21,
+        rejected: 4,
+        commands: 99,
+        user_time: 1_207,
+        system_time: 30,
+        tilt: None,
+    };
+    let mut port = PortFacts::of(alloc, figures);
+    port.clients
+        .push(client(alloc, 21, b"127.0.0.1:50021", 0, 0)?)?;
+    port.clients
+        .push(client(alloc, 7, b"127.0.0.1:50007", 1, 2)?)?;
+    port.clients
+        .push(client(alloc, 8, b"127.0.0.1:50008", 2, 0)?)?;
+    let mut gone = client(alloc, 9, b"127.0.0.1:50009", 3, 0)?;
+    gone.gone = true;
+    port.clients.push(gone)?;
+    Ok(port)
 }
 
 /// A connection with number 21 and this name, at one of three Sentinels that watch `mymaster`.
@@ -28,11 +84,11 @@ fn asker(alloc: Global, name: &[u8], listens: bool) -> Result<ClientInfo, Unplay
         id: 21,
         name: Text::from_slice(alloc, name)?,
         listens,
-        masters: mymaster(alloc, 2)?,
-        sentinels: 3,
+        masters: mymaster(alloc)?,
         password: None,
         admitted: false,
         current: None,
+        port: port(alloc)?,
     })
 }
 
@@ -48,7 +104,6 @@ fn locked(alloc: Global, admitted: bool) -> Result<ClientInfo, Unplayed> {
 fn tell_kind(kind: Courtesy, text: &[u8], told: &mut Told) -> Result<(), Unplayed> {
     match kind {
         Courtesy::Left => told.word("left"),
-        Courtesy::Widens => told.word("widens"),
         Courtesy::Said => told.bytes(text),
         Courtesy::AsksMasters => told.word("asks_masters"),
     }
@@ -68,6 +123,10 @@ fn tell(
     if asker.password.is_some() && asker.admitted {
         told.word("admitted")?;
     }
+    for place in asker.port.killed.as_slice() {
+        told.word("killed")?;
+        told.number(*place as u64)?;
+    }
     if asker.name.as_slice().is_empty() {
         return Ok(());
     }
@@ -83,51 +142,49 @@ fn tell_info(
     told: &mut Told,
 ) -> Result<(), Unplayed> {
     let mut out = OutText::new(alloc);
+    let known = port(alloc)?;
     info(
         alloc,
         &array(alloc, words)?,
+        &known.figures,
         &value_of(alloc, masters)?,
         &mut out,
     )?;
     told.bytes(out.as_slice())
 }
 
-/// Tells the answer to a command with these words with redis-sentinel's fields, where a Sentinel answers it with
-/// `answer`.
-fn tell_wide(
-    alloc: Global,
-    answer: &[u8],
-    words: &[Vec<u8>],
-    told: &mut Told,
-) -> Result<(), Unplayed> {
+/// Tells the answer to INFO SENTINEL at a Sentinel that watches no master and is in TILT for so many milliseconds.
+fn tell_tilt(alloc: Global, millis: u32, told: &mut Told) -> Result<(), Unplayed> {
     let mut out = OutText::new(alloc);
-    wide(
-        alloc,
-        &asker(alloc, b"", false)?,
-        &array(alloc, words)?,
-        &value_of(alloc, answer)?,
-        &mut out,
-    )?;
+    let known = port(alloc)?;
+    let mut figures = known.figures;
+    figures.tilt = Some(u64::from(millis));
+    let mut words = Vec::new(alloc);
+    words.push(Vec::from_slice(alloc, b"INFO")?)?;
+    words.push(Vec::from_slice(alloc, b"sentinel")?)?;
+    let (value, none) = (array(alloc, words.as_slice())?, array(alloc, &[])?);
+    info(alloc, &value, &figures, &none, &mut out)?;
     told.bytes(out.as_slice())
 }
 
-/// Tells the answer to CKQUORUM in redis-sentinel's words, where a Sentinel gives this one, `mymaster` has this quorum,
-/// and there are so many Sentinels.
-fn tell_quorum(
-    alloc: Global,
-    quorum: u32,
-    sentinels: u32,
-    answer: &[u8],
-    words: &[Vec<u8>],
-    told: &mut Told,
-) -> Result<(), Unplayed> {
+/// Tells what each of some commands of one connection is answered, each command as a line.
+fn tell_each(alloc: Global, lines: &[Vec<u8>], told: &mut Told) -> Result<(), Unplayed> {
     let mut asker = asker(alloc, b"", false)?;
-    asker.masters = mymaster(alloc, quorum)?;
-    asker.sentinels = sentinels as usize;
     let mut out = OutText::new(alloc);
-    let answer = value_of(alloc, answer)?;
-    wide(alloc, &asker, &array(alloc, words)?, &answer, &mut out)?;
-    told.bytes(out.as_slice())
+    for line in lines {
+        let mut words = Vec::new(alloc);
+        for word in line.as_slice().split(|byte| *byte == b' ') {
+            words.push(Vec::from_slice(alloc, word)?)?;
+        }
+        courtesy_of(
+            alloc,
+            &mut asker,
+            &array(alloc, words.as_slice())?,
+            &mut out,
+        )?;
+        told.bytes(out.as_slice())?;
+    }
+    Ok(())
 }
 
 /// Tells a value by its bytes.
@@ -139,8 +196,8 @@ fn tell_value(alloc: Global, value: &Value, told: &mut Told) -> Result<(), Unpla
     told.bytes(out.as_slice())
 }
 
-/// Tells what becomes of a value, one that is left by its bytes; of INFO also its answer, and of a command whose answer
-/// is told in other words its bytes and that answer, where the Sentinel answers with no masters.
+/// Tells what becomes of a value, one that is left by its bytes; of INFO also its answer, where the Sentinel answers
+/// with no masters.
 fn tell_one(
     alloc: Global,
     attendant: &mut CommandReader,
@@ -154,11 +211,6 @@ fn tell_one(
     match kind {
         Courtesy::Said => Ok(()),
         Courtesy::Left => tell_value(alloc, value, told),
-        Courtesy::Widens => {
-            tell_value(alloc, value, told)?;
-            attendant.widen(value, &array(alloc, &[])?)?;
-            told.bytes(attendant.text())
-        }
         Courtesy::AsksMasters => {
             attendant.inform(value, &array(alloc, &[])?)?;
             told.bytes(attendant.text())
@@ -268,11 +320,8 @@ pub(crate) fn play(
         ("ask_admitted", words) => tell(alloc, &mut locked(alloc, true)?, words, told),
         ("ask_as", [name, words @ ..]) => tell(alloc, &mut asker(alloc, name, false)?, words, told),
         ("info", [masters, words @ ..]) => tell_info(alloc, masters, words, told),
-        ("widen", [answer, words @ ..]) => tell_wide(alloc, answer, words, told),
-        ("quorum", [quorum, sentinels, answer, words @ ..]) => {
-            let (quorum, sentinels) = (number_32(quorum)?, number_32(sentinels)?);
-            tell_quorum(alloc, quorum, sentinels, answer, words, told)
-        }
+        ("tilt", [millis]) => tell_tilt(alloc, number_32(millis)?, told),
+        ("ask_each", lines) => tell_each(alloc, lines, told),
         ("take_common", pieces) => tell_common(alloc, &mut attendant(alloc)?, pieces, told),
         ("attend", pieces) => tell_stream(alloc, &mut attendant(alloc)?, pieces, told),
         ("attend_listening", pieces) => tell_stream(alloc, &mut listening(alloc)?, pieces, told),

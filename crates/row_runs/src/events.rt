@@ -81,6 +81,7 @@ pub(crate) fn event(alloc: Global, words: &[Vec<u8>]) -> Result<Event, Unplayed>
             node: node(of)?,
             reply: PingReply::Pong,
         }),
+        ("refused", [of]) => Ok(Event::Refused { node: node(of)? }),
         ("lost", [of]) => Ok(Event::Disconnected { node: node(of)? }),
         ("info", [of, bytes]) => Ok(Event::InfoRead {
             node: node(of)?,

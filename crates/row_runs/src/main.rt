@@ -31,6 +31,7 @@ mod message_rows;
 mod names_and_texts;
 mod node_talks;
 mod nodes;
+mod noticed;
 mod outboxes;
 mod plans;
 mod reports;

@@ -188,6 +188,10 @@ pub(crate) fn tell_event(alloc: Global, event: &Event, told: &mut Told) -> Resul
             told.word("HelloRead")?;
             told.bytes(text.as_slice())
         }
+        Event::Refused { node } => {
+            told.word("Refused")?;
+            tell_node(*node, told)
+        }
         Event::Disconnected { node } => {
             told.word("Disconnected")?;
             tell_node(*node, told)

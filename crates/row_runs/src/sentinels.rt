@@ -10,6 +10,7 @@ use crate::events::event;
 use crate::frames::tell_value;
 use crate::given::{addr, number, number_16, number_32, says};
 use crate::message_rows::{is_hello, is_routine, tell_output};
+use crate::noticed::tell_notice;
 use crate::told::{Told, Unplayed};
 use ballot_law::{Card, Event, Input, Output};
 use conf_lines::ConfKind;
@@ -18,6 +19,7 @@ use sentinel_conf::{ConfStore, read};
 use sentinel_core::{Sentinel, ServeFault, Served};
 use sentinel_outbox::{Outbox, ReleaseFault, StoreFault, TakeFault, Took};
 use sentinel_rules::Profile;
+use sentinel_state::NOTICES_MAX;
 use std::alloc::Global;
 use std::io::{Cursor, Read, Write};
 
@@ -250,6 +252,17 @@ impl Lone {
         told.nothing()
     }
 
+    /// Tells what its rules noted that wasn't told yet.
+    fn tell_notices(&self, told: &mut Told) -> Result<(), Unplayed> {
+        for _ in 0..NOTICES_MAX {
+            let Some(notice) = self.sentinel.take_notice() else {
+                return told.nothing();
+            };
+            tell_notice(notice, told)?;
+        }
+        Ok(())
+    }
+
     /// Tells what comes of a call in the order of an input.
     fn play_turn(
         &mut self,
@@ -298,6 +311,7 @@ impl Lone {
         match (call, words) {
             ("shown", []) => told.number(self.outbox.outputs().len() as u64),
             ("hellos", []) => self.tell_hellos(told),
+            ("notices", []) => self.tell_notices(told),
             ("text", []) => told.bytes(self.file.text()),
             ("kept", []) => tell_kept(self.alloc, self.file.text(), told),
             ("writes", []) => told.number(self.file.writes()),

@@ -49,6 +49,7 @@ impl Stage {
             "rosters_in_order" => Stage::Rosters(Box::new(alloc, Rosters::new(alloc))?),
             "every_command"
             | "failovers"
+            | "notices"
             | "redis_profile"
             | "port_texts"
             | "refusals"

@@ -11,6 +11,7 @@ use Rattle.boxed_nodes.specs.Images.{Image}
 use Rattle.fault_world.specs.declared.scenarios.faults.ScenarioFault.{ScenarioFault}
 use Rattle.fault_world.specs.declared.scenarios.faults.ScenarioKind.{ScenarioKind}
 use Rattle.fault_world.specs.declared.scenarios.faults.ScenarioKind.TheVariants.{NotUtf8}
+use Rattle.sentinel_rules.specs.declared.profiles.Profile.{Profile}
 use Rattle.fault_world.specs.Scenarios.Scenarios.{at_line, behind, fault_at, line_of, scenario, steps_from}
 use Rattle.std.specs.Str.{is_utf8}
 use Rattle.fault_world.specs.declared.entry.Entry.{Entry}
@@ -79,28 +80,28 @@ of_one : (line : Line) (steps : List Step) → (at_line 1 line >>= λ told. behi
 of_one (Ok told) steps e = ap (λ xs. let r : Line = Ok xs in r) (sym (append-nil told) ∙ steps_same e)
 of_one (Err kind) steps e = absurd (fault_is_none e)
 
-one_line : (line : List ℕ) (steps : List Step) → IsLine line → steps_from 1 (lines line) ≡ Ok steps → line_of line ≡ Ok steps
-one_line [] steps is e = ap (λ xs. let r : Line = Ok xs in r) (steps_same e)
-one_line (b ∷ bs) steps is e = of_one (line_of (b ∷ bs)) steps (ap (steps_from 1) (sym is) ∙ e)
+one_line : (profile : Profile) (line : List ℕ) (steps : List Step) → IsLine line → steps_from profile 1 (lines line) ≡ Ok steps → line_of profile line ≡ Ok steps
+one_line profile [] steps is e = ap (λ xs. let r : Line = Ok xs in r) (steps_same e)
+one_line profile (b ∷ bs) steps is e = of_one (line_of profile (b ∷ bs)) steps (ap (steps_from profile 1) (sym is) ∙ e)
 
-line_told : (text line : List ℕ) (rest : List (List ℕ)) (steps : List Step) → lines text ≡ line ∷ rest → scenario line ≡ Ok steps → line_of line ≡ Ok steps
-line_told text line rest steps first told =
-    one_line line steps (first_line text line rest first) (of_utf8 (is_utf8 line) (steps_from 1 (lines line)) (fault_at 0 NotUtf8) steps told)
+line_told : (profile : Profile) (text line : List ℕ) (rest : List (List ℕ)) (steps : List Step) → lines text ≡ line ∷ rest → scenario profile line ≡ Ok steps → line_of profile line ≡ Ok steps
+line_told profile text line rest steps first told =
+    one_line profile line steps (first_line text line rest first) (of_utf8 (is_utf8 line) (steps_from profile 1 (lines line)) (fault_at 0 NotUtf8) steps told)
 
 behind_both : (xs ys : List Step) (told : Told) → behind xs (behind ys told) ≡ behind (xs ++ ys) told
 behind_both xs ys (Ok steps) = ap (λ zs. let r : Told = Ok zs in r) (sym (append_assoc xs ys steps))
 behind_both xs ys (Err fault) = refl
 
-one_more : (n : ℕ) (line : List ℕ) (rest : List (List ℕ)) (xs ys : List Step) → line_of line ≡ Ok ys →
-    behind xs (steps_from n (line ∷ rest)) ≡ behind (xs ++ ys) (steps_from (n + 1) rest)
-one_more n line rest xs ys told = ap (λ l. behind xs (at_line n l >>= λ steps. behind steps (steps_from (n + 1) rest))) told ∙ behind_both xs ys (steps_from (n + 1) rest)
+one_more : (profile : Profile) (n : ℕ) (line : List ℕ) (rest : List (List ℕ)) (xs ys : List Step) → line_of profile line ≡ Ok ys →
+    behind xs (steps_from profile n (line ∷ rest)) ≡ behind (xs ++ ys) (steps_from profile (n + 1) rest)
+one_more profile n line rest xs ys told = ap (λ l. behind xs (at_line n l >>= λ steps. behind steps (steps_from profile (n + 1) rest))) told ∙ behind_both xs ys (steps_from profile (n + 1) rest)
 
 -- The run so far
 
-pub record TracedTo (roster : Roster) (story rest : List ℕ) (shown : World → Type 0) : Type 0 where
+pub record TracedTo (profile : Profile) (roster : Roster) (story rest : List ℕ) (shown : World → Type 0) : Type 0 where
   pub steps : List Step
   pub number : ℕ
-  pub read : steps_from 1 (lines story) ≡ behind steps (steps_from number (lines rest))
+  pub read : steps_from profile 1 (lines story) ≡ behind steps (steps_from profile number (lines rest))
   pub start : World
   pub entries : List Entry
   pub run : HasRun roster start steps entries shown
@@ -109,21 +110,21 @@ none_before : (told : Told) → told ≡ behind [] told
 none_before (Ok steps) = refl
 none_before (Err fault) = refl
 
-pub traced_begin : (roster : Roster) (story : List ℕ) (shown : World → Type 0) → HasBegun roster shown → TracedTo roster story story shown
-traced_begin roster story shown begun = record { steps = []; number = 1; read = none_before (steps_from 1 (lines story)); start = begun.0; entries = []; run = begun.1 }
+pub traced_begin : (profile : Profile) (roster : Roster) (story : List ℕ) (shown : World → Type 0) → HasBegun roster shown → TracedTo profile roster story story shown
+traced_begin profile roster story shown begun = record { steps = []; number = 1; read = none_before (steps_from profile 1 (lines story)); start = begun.0; entries = []; run = begun.1 }
 
-pub traced_more : {M : Type 0} (old new : Roster) (story rest line more : List ℕ) (steps : List Step) (news : List Entry) (members members2 : List M)
-    (messages messages2 : List Message) → new ≡ old → lines rest ≡ line ∷ lines more → scenario line ≡ Ok steps →
-    (name : M → NodeName) (seat : M → Roster → Image → Type 0) → TracedTo old story rest (IsShown name seat old members messages) →
+pub traced_more : {M : Type 0} (profile : Profile) (old new : Roster) (story rest line more : List ℕ) (steps : List Step) (news : List Entry) (members members2 : List M)
+    (messages messages2 : List Message) → new ≡ old → lines rest ≡ line ∷ lines more → scenario profile line ≡ Ok steps →
+    (name : M → NodeName) (seat : M → Roster → Image → Type 0) → TracedTo profile old story rest (IsShown name seat old members messages) →
     GoesOn old steps news (IsShown name seat old members messages) (IsShown name seat old members2 messages2) →
-    TracedTo new story more (IsShown name seat new members2 messages2)
-traced_more old new story rest line more steps news members members2 messages messages2 same first told name seat before next =
-    subst (λ r. TracedTo r story more (IsShown name seat r members2 messages2)) (sym same)
+    TracedTo profile new story more (IsShown name seat new members2 messages2)
+traced_more profile old new story rest line more steps news members members2 messages messages2 same first told name seat before next =
+    subst (λ r. TracedTo profile r story more (IsShown name seat r members2 messages2)) (sym same)
     (record {
       steps = before.steps ++ steps;
       number = before.number + 1;
-      read = before.read ∙ ap (λ ls. behind before.steps (steps_from before.number ls)) first ∙
-          one_more before.number line (lines more) before.steps steps (line_told rest line (lines more) steps first told);
+      read = before.read ∙ ap (λ ls. behind before.steps (steps_from profile before.number ls)) first ∙
+          one_more profile before.number line (lines more) before.steps steps (line_told profile rest line (lines more) steps first told);
       start = before.start;
       entries = before.entries ++ news;
       run = next before.start before.steps before.entries before.run;
@@ -133,14 +134,14 @@ nothing : (text : List ℕ) → length text ≡ 0 → text ≡ []
 nothing [] none = refl
 nothing (b ∷ bs) none = absurd (omega (arith, none))
 
-pub traced_end : {M : Type 0} (old new : Roster) (story rest : List ℕ) (members : List M) (messages : List Message) → new ≡ old → length rest ≡ 0 →
-    (name : M → NodeName) (seat : M → Roster → Image → Type 0) → TracedTo new story rest (IsShown name seat new members messages) →
-    IsTraced old story (IsShown name seat old members messages)
-traced_end old new story rest members messages same empty name seat traced =
-    let t = subst (λ r. TracedTo r story rest (IsShown name seat r members messages)) same traced in
+pub traced_end : {M : Type 0} (profile : Profile) (old new : Roster) (story rest : List ℕ) (members : List M) (messages : List Message) → new ≡ old → length rest ≡ 0 →
+    (name : M → NodeName) (seat : M → Roster → Image → Type 0) → TracedTo profile new story rest (IsShown name seat new members messages) →
+    IsTraced profile old story (IsShown name seat old members messages)
+traced_end profile old new story rest members messages same empty name seat traced =
+    let t = subst (λ r. TracedTo profile r story rest (IsShown name seat r members messages)) same traced in
     record {
       steps = t.steps;
-      read = t.read ∙ ap (λ text. behind t.steps (steps_from t.number (lines text))) (nothing rest empty) ∙ ap (λ xs. let r : Told = Ok xs in r) (append-nil t.steps);
+      read = t.read ∙ ap (λ text. behind t.steps (steps_from profile t.number (lines text))) (nothing rest empty) ∙ ap (λ xs. let r : Told = Ok xs in r) (append-nil t.steps);
       start = t.start;
       entries = t.entries;
       run = t.run;

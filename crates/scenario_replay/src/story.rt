@@ -17,7 +17,7 @@ use crate::traces::trace;
 use ballot_law::{KeptText, NoMemory, Roster};
 use boxed_nodes::{ClientNode, DataNode, Node, SentinelNode};
 use conf_lines::{ConfFault, ConfKind};
-use fault_world::{FaultWorld, ScenarioFault, read_scenario, with_stop};
+use fault_world::{FaultWorld, ScenarioFault, read_scenario_as, with_stop};
 use resp2::OutText;
 use sentinel_conf::{Conf, read};
 use sentinel_rules::Profile;
@@ -114,12 +114,13 @@ fn tell_stopped(
     alloc: Global,
     world: &mut FaultWorld,
     scenario: &[u8],
+    profile: Profile,
     stop: Stop,
 ) -> Result<OutText, ReplayFault>
     requires { HasBegun world.old.roster
         (Shown (λ m. (m.node.vtable, m.node.value)) (λ b. name b) (λ b. shows b) world.old.roster world.old.members.items world.old.messages.items) }
 {
-    let told = steps_of(alloc, scenario)?;
+    let told = steps_of(alloc, scenario, profile)?;
     let behind = stop.behind.min(told.len());
     let steps = with_stop(alloc, &told, behind, stop.sentinel, stop.kept, stop.now)?;
     let report = world.run(&steps)?;
@@ -132,24 +133,25 @@ impl Story {
     /// The story of a scenario, with no Sentinel yet, which is to be played by strict ones, or the scenario's first
     /// fault.
     pub fn new(alloc: Global, text: Vec<u8>) -> Result<Story, ScenarioFault>
-        ensures story { IfOk result (λ story. story.text ≡ text) }
-        ensures fault { IfErr result (IsScenarioFault text.items) }
+        ensures story { IfOk result (λ story. (story.text ≡ text) × (story.profile ≡ Profile.Strict)) }
+        ensures fault { IfErr result (IsScenarioFault Profile.Strict text.items) }
     {
-        let _steps = read_scenario(alloc, text.as_slice())?;
+        Story::new_as(alloc, text, Profile::Strict)
+    }
+
+    /// The same of a story that is to be played by Sentinels of this profile.
+    pub fn new_as(alloc: Global, text: Vec<u8>, profile: Profile) -> Result<Story, ScenarioFault>
+        ensures story { IfOk result (λ story. (story.text ≡ text) × (story.profile ≡ profile)) }
+        ensures fault { IfErr result (IsScenarioFault profile text.items) }
+    {
+        let _steps = read_scenario_as(alloc, text.as_slice(), profile)?;
         Ok(Story {
             alloc,
-            profile: Profile::Strict,
+            profile,
             text,
             files: Vec::new(alloc),
             first: None,
         })
-    }
-
-    /// Has the story be played by Sentinels of this profile.
-    pub fn set_profile(&mut self, profile: Profile)
-        ensures { self.new ≡ record self.old { profile = profile } }
-    {
-        self.profile = profile;
     }
 
     /// Adds the Sentinel of a file. The fault is the file's first, and then the story is as it was. The group is that
@@ -158,7 +160,7 @@ impl Story {
         ensures added { OnOk result (self.new.files.items ≡ self.old.files.items ++ file ∷ []) }
         ensures first { OnOk result (IfNone self.old.first (IfSome self.new.first (λ conf. conf_of_bytes file.items ≡ Ok conf))) }
         ensures later { OnOk result (IfSome self.old.first (λ conf. self.new.first ≡ Some conf)) }
-        ensures story { self.new.text ≡ self.old.text }
+        ensures story { (self.new.text ≡ self.old.text) × (self.new.profile ≡ self.old.profile) }
         ensures fault { IfErr result (IsConfFault file.items) }
         ensures files { OnErr result (self.new.files.items ≡ self.old.files.items) }
         ensures group { OnErr result (self.new.first ≡ self.old.first) }
@@ -178,9 +180,9 @@ impl Story {
     fn tell(&self, world: &mut FaultWorld) -> Result<OutText, ReplayFault>
         requires { HasBegunWith (map (λ f. f.items) self.now.files.items) world.old.roster
             (Shown (λ m. (m.node.vtable, m.node.value)) (λ b. name b) (λ b. shows b) world.old.roster world.old.members.items world.old.messages.items) }
-        ensures { IfOk result (IsTold world.old.roster (map (λ f. f.items) self.now.files.items) self.now.text.items) }
+        ensures { IfOk result (IsTold self.now.profile world.old.roster (map (λ f. f.items) self.now.files.items) self.now.text.items) }
     {
-        let steps = steps_of(self.alloc, self.text.as_slice())?;
+        let steps = steps_of(self.alloc, self.text.as_slice(), self.profile)?;
         let report = world.run(&steps)?;
         let mut text = OutText::new(self.alloc);
         report.lines(&mut text)?;
@@ -193,7 +195,7 @@ impl Story {
     /// those of the first file. A story of no file is `NotTheRoster`.
     pub fn play(&self, printed: Printed) -> Result<OutText, ReplayFault>
         ensures told { IfSome self.now.first (λ conf. IfOk result (λ text. printed ≡ Printed.Report
-            → IsTold conf.roster (map (λ f. f.items) self.now.files.items) self.now.text.items text)) }
+            → IsTold self.now.profile conf.roster (map (λ f. f.items) self.now.files.items) self.now.text.items text)) }
     {
         let Some(conf) = &self.first else {
             return Err(ReplayFault::NotTheRoster);
@@ -222,8 +224,10 @@ impl Story {
         let mut world = world_of(self.alloc, roster, nodes)?;
         match printed {
             Printed::Report => self.tell(&mut world),
-            Printed::Trace => trace(self.alloc, &mut world, &self.text),
-            Printed::Stopped(stop) => tell_stopped(self.alloc, &mut world, &self.text, stop),
+            Printed::Trace => trace(self.alloc, &mut world, &self.text, self.profile),
+            Printed::Stopped(stop) => {
+                tell_stopped(self.alloc, &mut world, &self.text, self.profile, stop)
+            },
         }
     }
 }

@@ -11,6 +11,7 @@ use crate::steps::steps_of;
 use ballot_law::NoMemory;
 use fault_world::{FaultWorld, Report, add_comment, add_message};
 use resp2::OutText;
+use sentinel_rules::Profile;
 use std::alloc::Global;
 use tokens::split_line;
 
@@ -46,16 +47,17 @@ fn add_report(alloc: Global, text: &mut OutText, report: &Report) -> Result<(), 
     Ok(())
 }
 
-/// Plays the scenario in a world that has begun, line by line, and gives its lines, each with what it caused as
-/// comments after it. All that is run so is one run from the start.
+/// Plays the scenario of Sentinels of this profile in a world that has begun, line by line, and gives its lines, each
+/// with what it caused as comments after it. All that is run so is one run from the start.
 pub(crate) fn trace(
     alloc: Global,
     world: &mut FaultWorld,
     scenario: &[u8],
+    profile: Profile,
 ) -> Result<OutText, ReplayFault>
     requires { HasBegun world.old.roster
         (Shown (λ m. (m.node.vtable, m.node.value)) (λ b. name b) (λ b. shows b) world.old.roster world.old.members.items world.old.messages.items) }
-    ensures { IfOk result (λ _. IsTraced world.old.roster scenario.now
+    ensures { IfOk result (λ _. IsTraced profile world.old.roster scenario.now
         (Shown (λ m. (m.node.vtable, m.node.value)) (λ b. name b) (λ b. shows b) world.old.roster world.new.members.items world.new.messages.items)) }
 {
     let mut text = OutText::new(alloc);
@@ -63,7 +65,7 @@ pub(crate) fn trace(
     let mut rest = scenario;
     while !rest.is_empty() {
         let (line, behind) = split_line(rest);
-        let steps = steps_of(alloc, line)?;
+        let steps = steps_of(alloc, line, profile)?;
         text.add(line)?;
         text.add(b"\n")?;
         let report = world.run(&steps)?;

@@ -1,4 +1,3 @@
-pub mod AtPlaces
 pub mod FewBest
 pub mod Looking
 pub mod Openings

@@ -2,7 +2,7 @@
 use Rattle.std.proofs.Common.{◌≡◌, ◌≤◌, ℕ, true, false, List, [], length, refl, ap, ◌∙◌, arith}
 use Rattle.std.proofs.lemmas.Bool.{true≢false}
 use Rattle.ballot_law.specs.declared.events.Event.{Event}
-use Rattle.ballot_law.specs.declared.events.Event.TheVariants.{Command, Tick, Answered, Pinged, InfoRead, HelloRead, Disconnected, Become, Handed}
+use Rattle.ballot_law.specs.declared.events.Event.TheVariants.{Command, Tick, Answered, Pinged, InfoRead, HelloRead, Disconnected, Refused, Become, Handed}
 use Rattle.ballot_law.specs.declared.messages.TheConstants.{OUTPUTS_MAX}
 use Rattle.sentinel_rules.specs.declared.frames.Frame.{Frame}
 use Rattle.sentinel_rules.specs.declared.frames.TheConstants.{FRAMES_MAX}
@@ -33,6 +33,7 @@ of_news plan now (Answered voter m addr down leader epoch) core e = refl
 of_news plan now (Pinged node reply) core e = refl
 of_news plan now (InfoRead node text) core e = refl
 of_news plan now (HelloRead text) core e = refl
+of_news plan now (Refused node) core e = refl
 of_news plan now (Disconnected node) core e = refl
 of_news plan now (Become priority offset link_down) core e = refl
 of_news plan now (Handed message) core e = refl

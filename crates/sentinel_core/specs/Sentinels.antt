@@ -3,7 +3,7 @@ use Rattle.std.specs.Prelude.{◌≡◌, ◌<◌, ◌⊎◌, ℕ, Bool, true, fa
 use Rattle.ballot_law.specs.declared.cards.Kept.{Kept}
 use Rattle.ballot_law.specs.declared.commands.Command.TheVariants.{FlushConfig}
 use Rattle.ballot_law.specs.declared.events.Event.{Event}
-use Rattle.ballot_law.specs.declared.events.Event.TheVariants.{Command as Commanded, Tick, Answered, Pinged, InfoRead, HelloRead, Disconnected, Become, Handed}
+use Rattle.ballot_law.specs.declared.events.Event.TheVariants.{Command as Commanded, Tick, Answered, Pinged, InfoRead, HelloRead, Disconnected, Refused, Become, Handed}
 use Rattle.sentinel_rules.specs.Plans.{Plan}
 use Rattle.sentinel_rules.specs.States.{Core}
 use Rattle.sentinel_rules.specs.Changes.{IsAhead}
@@ -48,6 +48,7 @@ is_command (Pinged node reply) = false
 is_command (InfoRead node text) = false
 is_command (HelloRead text) = false
 is_command (Disconnected node) = false
+is_command (Refused node) = false
 is_command (Become priority offset link_down) = false
 is_command (Handed message) = false
 

@@ -9,21 +9,24 @@ ghost use Rattle.sentinel_core.specs.Formers.{former_of, put_back};
 ghost use Rattle.sentinel_core.specs.Sentinels.{is_command};
 ghost use Rattle.sentinel_rules.specs.Answers.{commanded};
 ghost use Rattle.node_texts.specs.declared.faults.TextFault.{TextFault};
+ghost use Rattle.node_texts.specs.Hellos.{hello_of};
 ghost use Rattle.sentinel_rules.specs.Changes.{IsAhead, asked_about, concerned, listed_by, told_of};
 ghost use Rattle.sentinel_rules.specs.Facts.{IsSoundPlan, IsSound};
 ghost use Rattle.ballot_law.specs.Limits.{IsWithinEvent};
 ghost use Rattle.sentinel_rules.specs.Named.{IsNamed};
+ghost use Rattle.sentinel_rules.specs.News.{hello_read};
 ghost use Rattle.sentinel_rules.specs.Parts.{output_of, send, hello_of_master};
 ghost use Rattle.sentinel_rules.specs.Plans.{master_count, node_named};
 ghost use Rattle.sentinel_rules.specs.Takes.{next, next_at, part_of, answer_to};
 ghost use Rattle.sentinel_state.specs.Parts.{with_part};
 
 use crate::inputs::{
-    answer_by_text, answer_plainly, hear_answer, hear_loss, hear_pong, take_hello, take_info, tick,
+    answer_by_text, answer_plainly, answer_switch, hear_answer, hear_loss, hear_pong, hear_refusal,
+    take_hello, take_info, tick,
 };
 use crate::undo::Undo;
 use ballot_law::{Body, Command, Event, Hello, Input, Message, NodeName, Note, Output};
-use node_texts::{TextFault, read_hello, read_info};
+use node_texts::{TextFault, read_hello};
 use sentinel_outbox::{Outbox, Phase, Stores};
 use sentinel_rules::{
     Frame, law_hellos_name_masters, law_inputs_change_one_card, law_inputs_keep_sound,
@@ -95,6 +98,7 @@ fn output_of(plan: &Plan, core: &Core, frame: Frame) -> Output
             send(plan, NodeName::SentinelAt(place), ask)
         }
         Frame::PromoteTo(target) => send(plan, target, Body::ReplicaOf(None)),
+        Frame::HandOverTo { target, heir } => send(plan, target, Body::HandOver(heir)),
         Frame::FollowTo { target, master } => {
             send(plan, target, Body::ReplicaOf(Some(core.card(master).addr)))
         }
@@ -118,6 +122,11 @@ fn answer(state: &mut State, now: u64, command: &Command, outbox: &mut Outbox) -
     ensures held_room { outbox.new.held_room ≡ outbox.old.held_room }
     ensures shown_room { outbox.new.shown_room ≡ outbox.old.shown_room }
 {
+    if let Command::Failover(name) = *command {
+        let text = outbox.take_text();
+        let shown = outbox.take_list();
+        return answer_switch(&state.plan, &mut state.core, now, name, text, shown);
+    }
     if let Some(body) = answer_plainly(&state.plan, &mut state.core, now, command) {
         return body;
     }
@@ -154,6 +163,16 @@ fn told_of(plan: &Plan, hello: &Result<Hello, TextFault>) -> Option<u16>
     }
 }
 
+/// Has the state take a hello, and takes down what it may overwrite of what is kept.
+fn hear_hello(state: &mut State, now: u64, text: &[u8], former: &mut Undo)
+    ensures former { former.new ≡ former_of state.old.core.kept (told_of state.old.plan (hello_of text.now)) }
+    ensures state { state.new ≡ with_part state.old (hello_read state.old.plan (clock now) (hello_of text.now) state.old.core) }
+{
+    let hello = read_hello(text);
+    former.begin(state.core.kept(), told_of(&state.plan, &hello));
+    take_hello(state, now, hello);
+}
+
 /// Has the state take an event that is no command (`act_on` answers these itself), and takes down what it may overwrite
 /// of what is kept.
 fn hear(state: &mut State, now: u64, event: &Event, former: &mut Undo)
@@ -168,13 +187,9 @@ fn hear(state: &mut State, now: u64, event: &Event, former: &mut Undo)
         }
         Event::InfoRead { node, text } => {
             former.begin(kept, listed_by(&state.plan, *node));
-            take_info(state, *node, now, read_info(text.as_slice()));
+            take_info(state, *node, now, text.as_slice());
         }
-        Event::HelloRead { text } => {
-            let hello = read_hello(text.as_slice());
-            former.begin(kept, told_of(&state.plan, &hello));
-            take_hello(state, now, hello);
-        }
+        Event::HelloRead { text } => hear_hello(state, now, text.as_slice(), former),
         Event::Answered {
             voter,
             master,
@@ -194,11 +209,14 @@ fn hear(state: &mut State, now: u64, event: &Event, former: &mut Undo)
             former.begin(kept, None);
             hear_loss(state, *node);
         }
+        Event::Refused { node } => {
+            former.begin(kept, None);
+            hear_refusal(state, *node);
+        }
         Event::Command { command, .. } => {
             former.begin(kept, asked_about(command, &state.core));
         }
-        Event::Become { .. } => former.begin(kept, None),
-        Event::Handed(_) => former.begin(kept, None),
+        Event::Become { .. } | Event::Handed(_) => former.begin(kept, None),
     }
 }
 

@@ -12,12 +12,13 @@ mod facts;
 mod failing_over;
 mod hellos;
 mod infos;
+mod known;
 mod replies;
 mod rows;
 mod ticks;
 
-pub use commands::{answer_by_text, answer_plainly};
+pub use commands::{answer_by_text, answer_plainly, answer_switch};
 pub use hellos::take_hello;
 pub use infos::take_info;
-pub use replies::{hear_answer, hear_loss, hear_pong};
+pub use replies::{hear_answer, hear_loss, hear_pong, hear_refusal};
 pub use ticks::tick;

@@ -24,7 +24,7 @@ use sentinel_rules::{
     Profile, law_ignored_inputs_change_nothing, law_inputs_are_steps, law_inputs_change_one_card,
     law_opening_is_sound,
 };
-use sentinel_state::{Core, FrameList, Plan, State};
+use sentinel_state::{Core, FrameList, Notice, Plan, State};
 use std::alloc::Global;
 use std::marker::Model;
 
@@ -208,6 +208,15 @@ impl Sentinel {
         ensures { result.now ≡ self.now.core }
     {
         &self.state.core
+    }
+
+    /// Takes the oldest notice of what its rules did that nobody took yet; none while an input waits to be stored, and
+    /// none of one that couldn't be stored.
+    pub fn take_notice(&self) -> Option<Notice> {
+        match self.phase {
+            Phase::Ready | Phase::Stored => self.state.core.take_notice(),
+            Phase::Pending { .. } | Phase::Halted | Phase::Stopped => None,
+        }
     }
 
     /// The stored configuration of the master with this number: where the file says that the master is. None where

@@ -24,8 +24,13 @@ fn bytes_of(rt: &HostRuntime, path: &str) -> Result<Vec<u8>, ExitCode> {
 
 /// Reads the scenario and the files of the Sentinels in the order of the words; the first that is refused ends the
 /// program.
-fn story_of(rt: &HostRuntime, scenario: &str, confs: &[&str]) -> Result<Story, ExitCode> {
-    let mut story = match Story::new(rt.alloc(), bytes_of(rt, scenario)?) {
+fn story_of(
+    rt: &HostRuntime,
+    scenario: &str,
+    confs: &[&str],
+    profile: Profile,
+) -> Result<Story, ExitCode> {
+    let mut story = match Story::new_as(rt.alloc(), bytes_of(rt, scenario)?, profile) {
         Ok(story) => story,
         Err(fault) => return Err(refuse_scenario(rt, scenario, fault)),
     };
@@ -49,11 +54,10 @@ fn profile_of(words: &ArgMatches) -> Profile {
 pub(crate) fn replay(rt: &HostRuntime, words: &ArgMatches) -> ExitCode {
     let scenario = words.get_str("scenario").unwrap_or("");
     let confs = words.get_strs("conf").unwrap_or(&[]);
-    let mut story = match story_of(rt, scenario, confs) {
+    let story = match story_of(rt, scenario, confs, profile_of(words)) {
         Ok(story) => story,
         Err(status) => return status,
     };
-    story.set_profile(profile_of(words));
     let printed = if words.get_flag("trace") {
         Printed::Trace
     } else {

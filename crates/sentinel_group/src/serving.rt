@@ -9,6 +9,7 @@ use crate::group_files::{GroupFiles, files_of};
 use crate::locks::{FileLock, lock_files, refuse_lock};
 use crate::starting::note_start;
 use clap::ArgMatches;
+use client_port::ReadsTimes;
 use conf_check::is_one_group;
 use data_node_port::descriptors_of;
 use log::Log;
@@ -52,7 +53,7 @@ fn run_group<R, S, P>(
     words: &ArgMatches,
 ) -> Result<(), OrderedFault>
 where
-    R: Threads + Wait + Net + Clock + Log + Input + Sync,
+    R: Threads + Wait + Net + Clock + ReadsTimes + Log + Input + Sync,
     S: ConfStore + Drop + Send,
     P: ServesNodes + Drop + Send,
 {
@@ -83,7 +84,7 @@ fn run<R>(
     words: &ArgMatches,
 ) -> Result<(), OrderedFault>
 where
-    R: Threads + Wait + Net + Clock + Log + Input + Sync,
+    R: Threads + Wait + Net + Clock + ReadsTimes + Log + Input + Sync,
     requires { All (λ store. store < 2 ^ 64 - 1) files.stores.items }
 {
     let alloc = rt.alloc();
@@ -136,7 +137,7 @@ fn locked_files_of<'a, R: Log>(
 /// log of `noting`.
 pub(crate) fn serve<R>(rt: HostRuntime, noting: &R, words: &ArgMatches) -> Result<(), Unserved>
 where
-    R: Threads + Wait + Net + Clock + Log + Input + Sync,
+    R: Threads + Wait + Net + Clock + ReadsTimes + Log + Input + Sync,
 {
     let (files, locks) = match locked_files_of(rt, noting, words) {
         Ok(locked) => locked,

@@ -15,7 +15,7 @@ use crate::starting::note_sentinel;
 use crate::telling::{note_watch, tell_faults, tell_watch};
 use ballot_law::Text;
 use clap::ArgMatches;
-use client_port::{Admission, PortAddress};
+use client_port::{Admission, PortAddress, ReadsTimes};
 use log::{LevelFilter, Log, info};
 use sentinel_conf::{
     Conf, ConfStore, FileText, WatchConf, WatchFault, WatchKind, read, read_watch,
@@ -237,7 +237,7 @@ fn run_ready<R, S: ConfStore + Drop + Send>(
     ready: ReadyFile<'_>,
 ) -> Result<(), Unwatched>
 where
-    R: Threads + Wait + Net + Clock + Log + Sync,
+    R: Threads + Wait + Net + Clock + ReadsTimes + Log + Sync,
 {
     if let Err(status) = ready.open(rt, noting) {
         return Err(Unwatched::Refused(status));
@@ -254,7 +254,7 @@ where
 /// log of `noting`.
 pub(crate) fn watch<R>(rt: HostRuntime, noting: &R, words: &ArgMatches) -> Result<(), Unwatched>
 where
-    R: Threads + Wait + Net + Clock + Log + Sync,
+    R: Threads + Wait + Net + Clock + ReadsTimes + Log + Sync,
 {
     let (file, lock) = match locked_file(rt, noting, words) {
         Ok(locked) => locked,

@@ -1,15 +1,15 @@
 -- An input changes at most the current epoch and the entry of the master that its event concerns.
-use Rattle.std.proofs.Common.{◌≡◌, ◌≢◌, ℕ, zero, suc, ◌+◌, Bool, true, false, Option, Some, None, refl, sym, ap, ◌∙◌}
-use Rattle.std.specs.Prelude.{Result, Ok, Err, is_some, nat_lt, not, ◌&&◌, ◌==◌, if◌then◌else◌}
+use Rattle.std.proofs.Common.{◌≡◌, ◌≢◌, ℕ, zero, suc, ◌+◌, Bool, true, false, Option, Some, None, refl, sym, ap, ◌∙◌, [], subst}
+use Rattle.std.specs.Prelude.{Result, Ok, Err, is_some, nat_lt, not, ◌&&◌, ◌==◌, if◌then◌else◌, ◌||◌}
 use Rattle.std.proofs.lemmas.Option.{same_Some}
 use Rattle.ballot_law.specs.declared.addresses.Addr.{Addr}
 use Rattle.ballot_law.specs.declared.addresses.RunId.{RunId}
 use Rattle.ballot_law.specs.declared.cards.Card.{Card}
 use Rattle.ballot_law.specs.declared.cards.Kept.{Kept}
 use Rattle.ballot_law.specs.declared.commands.Command.{Command}
-use Rattle.ballot_law.specs.declared.commands.Command.TheVariants.{Ping, IsMasterDownByAddr, GetMasterAddrByName, Masters, Master, Replicas, Sentinels, MyId, CkQuorum, FlushConfig, Subscribe}
+use Rattle.ballot_law.specs.declared.commands.Command.TheVariants.{Ping, IsMasterDownByAddr, GetMasterAddrByName, Masters, Master, Replicas, Sentinels, MyId, CkQuorum, FlushConfig, Subscribe, Failover}
 use Rattle.ballot_law.specs.declared.events.Event.{Event}
-use Rattle.ballot_law.specs.declared.events.Event.TheVariants.{Tick, Command as Commanded, Answered as AnswerCame, Pinged, InfoRead, HelloRead, Disconnected, Become, Handed}
+use Rattle.ballot_law.specs.declared.events.Event.TheVariants.{Tick, Command as Commanded, Answered as AnswerCame, Pinged, InfoRead, HelloRead, Disconnected, Become, Handed, Refused}
 use Rattle.ballot_law.specs.declared.messages.NodeName.{NodeName}
 use Rattle.ballot_law.specs.declared.messages.NodeName.TheVariants.{SentinelAt, StoreAt, ClientAt, PortAt}
 use Rattle.ballot_law.specs.declared.replies.Hello.{Hello}
@@ -30,15 +30,20 @@ use Rattle.failover_states.specs.Table.{Turn}
 use Rattle.node_texts.specs.declared.faults.TextFault.{TextFault}
 use Rattle.node_texts.specs.Hellos.{hello_of}
 use Rattle.node_texts.specs.Infos.{info_of}
+use Rattle.node_texts.specs.Announced.{is_announced}
 use Rattle.ballot_law.specs.declared.node_places.NodePlace.{NodePlace}
+use Rattle.port_answers.specs.Answers.{ok_line, in_progress, in_tilt, no_good_replica, command_fault}
+use Rattle.resp2.specs.declared.command.CommandFault.TheVariants.{UnknownCommand}
+use Rattle.sentinel_rules.specs.declared.profiles.Profile.{Profile}
+use Rattle.sentinel_rules.specs.declared.profiles.Profile.TheVariants.{Strict, Redis}
 use Rattle.sentinel_rules.specs.Plans.{Plan, roster_of, me, group_size, master_count, node_named}
-use Rattle.sentinel_rules.specs.States.{Core, master_of, node_of, failover_of, card_place, is_failing_over, is_tilted, is_master_down, with_master, with_failover, with_current, with_card}
+use Rattle.sentinel_rules.specs.States.{is_master_role, Core, master_of, node_of, failover_of, card_place, is_failing_over, is_tilted, is_master_down, with_master, with_failover, with_current, with_card, is_wished, is_handed, is_planned}
 use Rattle.sentinel_rules.specs.Parts.{Part, quiet, part_if}
-use Rattle.sentinel_rules.specs.Profiles.{is_redis, election_ms, marked_at, marked, rest_of, rested}
+use Rattle.sentinel_rules.specs.Profiles.{is_asking, is_redis, election_ms, marked_at, marked, rest_of, rested, by_profile, candidate_place}
 use Rattle.sentinel_rules.specs.Votes.{book_of, with_book, mark_for, requested}
-use Rattle.sentinel_rules.specs.Ticks.{peers_part, nodes_part, odown_part, ask_part, ask_candidate, ask_frames, is_ask_due, with_vote, with_win, turn_of, campaign_epoch, row_part, after_start, start_turn, starts_now, start_part, failover_part, judging_part, master_part, with_reading, tick}
-use Rattle.sentinel_rules.specs.News.{at_same_address, at_new_address, card_taken, is_heeded, is_newer, raised_to, adopted, hello_of_known, hello_heeded, hello_read, reported, vote_heard, answer_of, answered, pinged_at, peer_lost, lost_at, connection_lost, disconnected, pinged, info_kept, is_master_role, promotion, has_followed, reconfiguration, correction, is_reconfiguring, judged, info_at_node, info_of_node, info_read}
-use Rattle.sentinel_rules.specs.Answers.{asked_of, master_with_card, commanded}
+use Rattle.sentinel_rules.specs.Ticks.{peers_part, nodes_part, odown_part, ask_part, ask_candidate, ask_frames, is_ask_due, with_vote, with_win, turn_of, campaign_epoch, row_part, after_start, start_turn, starts_now, start_part, failover_part, judging_part, master_part, with_reading, tick, planned_start, with_plan}
+use Rattle.sentinel_rules.specs.News.{at_same_address, at_new_address, card_taken, is_heeded, is_newer, raised_to, adopted, hello_of_known, hello_heeded, hello_read, reported, vote_heard, answer_of, answered, pinged_at, peer_lost, lost_at, connection_lost, disconnected, pinged, info_kept, promotion, has_followed, reconfiguration, correction, is_reconfiguring, judged, info_at_node, info_of_node, info_read, refusal_at, refusal_heard, with_frames, closing_frames, greeted_at, greeted, announced_at}
+use Rattle.sentinel_rules.specs.Answers.{asked_of, master_with_card, commanded, Answered, unchanged, reply, named, has_heir, wished, asked_to_switch}
 use Rattle.sentinel_rules.specs.Takes.{next, next_at, cleared}
 use Rattle.sentinel_rules.specs.Changes.{ChangesAt, ChangesOne, InputsChangeAt, InputsChangeOne, asked_about, concerned, listed_by, told_of}
 use Rattle.sentinel_rules.proofs.KeptParts.{other_entry}
@@ -124,10 +129,13 @@ begun m turn core =
 
 start_touches : (plan : Plan) (m now : ℕ) (core : Core) → Touches m core (start_part plan m now core).core
 start_touches plan m now core =
-    if_part m core (not (is_failing_over core m)) (λ c. quiet (after_start m (start_turn plan c m now) c)) (begun m (start_turn plan core m now) core)
+    let first : Core = after_start m (start_turn plan core m now) core in
+    if_part m core (not (is_failing_over core m)) (λ c. quiet (planned_start m now (start_turn plan c m now) c))
+    (by_test m core (is_some (start_turn plan core m now).row) (with_plan m now first) first
+    (chained m core first (with_plan m now first) (begun m (start_turn plan core m now) core) (λ k apart. refl)) (begun m (start_turn plan core m now) core))
 
 ask_touches : (plan : Plan) (m now : ℕ) (started : Bool) (core : Core) → Touches m core (ask_part plan m now started core).core
-ask_touches plan m now started core = known (is_master_down plan core m now && is_ask_due started (master_of core m).ask_sent now)
+ask_touches plan m now started core = known (is_asking plan core m now && is_ask_due started (master_of core m).ask_sent now)
   where
     known : (b : Bool) → Touches m core (part_if b core (λ c. record {
       core = with_master c m (record (master_of c m) { ask_sent = Some now });
@@ -204,9 +212,25 @@ at_if_part : (master : Option ℕ) (core : Core) (test : Bool) (part : Core → 
 at_if_part master core true part f = f
 at_if_part master core false part f = same master core
 
+-- what keeps all that the file holds comes before
+at_after : (master : Option ℕ) (core first core2 : Core) → first.kept ≡ core.kept → At master first core2 → At master core core2
+at_after master core first core2 e f = subst (λ (kept : Kept). ChangesAt master kept core2.kept) e f
+
+greeted_kept : (now : ℕ) (at : Option ℕ) (core : Core) → (greeted_at now at core).kept ≡ core.kept
+greeted_kept now None core = refl
+greeted_kept now (Some place) core = refl
+
+announced_kept : (announced : Bool) (at : Option NodePlace) (core : Core) → (announced_at announced at core).kept ≡ core.kept
+announced_kept announced None core = refl
+announced_kept announced (Some at) core = refl
+
 heeded_at : (plan : Plan) (now : ℕ) (m : Option ℕ) (hello : Hello) (core : Core) → At m core (hello_heeded plan now m hello core).core
 heeded_at plan now None hello core = same None core
-heeded_at plan now (Some m) hello core = at_master m core (hello_of_known plan m now hello core).core (known_touches plan m now hello core)
+heeded_at plan now (Some m) hello core = at_after (Some m) core first (hello_of_known plan m now hello first).core (greeted_kept now (candidate_place plan (Some hello.id)) core)
+    (at_master m first (hello_of_known plan m now hello first).core (known_touches plan m now hello first))
+  where
+    first : Core
+    first = greeted plan now hello core
 
 hello_at : (plan : Plan) (now : ℕ) (read : Result Hello TextFault) (core : Core) → At (told_of plan read) core (hello_read plan now read core).core
 hello_at plan now (Err fault) core = same None core
@@ -270,13 +294,25 @@ lost_at_none plan (PortAt number) core = same None core
 loss_at : (plan : Plan) (node : NodeName) (core : Core) → At None core (disconnected plan node core)
 loss_at plan node core = at_by_test None core (is_redis plan.profile) (connection_lost plan node core) core (lost_at_none plan node core) (same None core)
 
+no_refusal : (plan : Plan) (at : Option NodePlace) (core : Core) → At None core (refusal_at plan at core)
+no_refusal plan None core = same None core
+no_refusal plan (Some at) core =
+    at_by_test None core (is_handed core at.master && (at.place == card_place plan core at.master))
+    (with_master core at.master (record (master_of core at.master) { refused = true })) core (λ k apart. refl) (same None core)
+
+refused_at : (plan : Plan) (node : NodeName) (core : Core) → At None core (refusal_heard plan node core)
+refused_at plan node core =
+    at_by_test None core (is_redis plan.profile) (refusal_at plan (node_named plan node) core) core (no_refusal plan (node_named plan node) core) (same None core)
+
 promotion_touches : (plan : Plan) (m k now : ℕ) (info : Info) (state : FailoverState) (core : Core) → Touches m core (promotion plan m k now info state core).core
 promotion_touches plan m k now info (WaitPromotion epoch choice former) core =
     let first : Core = with_failover core m (promoted (WaitPromotion epoch choice former) (record (failover_of core m) { moment = now })) in
     let card : Card = record { epoch = epoch; addr = choice.addr } in
     if_part m core ((k == choice.place) && is_master_role info.role)
-    (λ c. card_taken plan m now (record { epoch = epoch; addr = choice.addr })
+    (λ c. with_frames
+    (card_taken plan m now (record { epoch = epoch; addr = choice.addr })
     (with_failover c m (promoted (WaitPromotion epoch choice former) (record (failover_of c m) { moment = now }))))
+    (closing_frames plan m k (card_place plan c m) (is_planned c m)))
     (chained m core first (card_taken plan m now card first).core (λ k apart. refl) (taken plan m now card first))
 promotion_touches plan m k now info _ core = stays m core
 
@@ -302,10 +338,13 @@ info_at plan now (Some at) info core =
     (chained at.master core first (info_at_node plan at.master at.place now info core).core (λ k apart. refl)
     (if_part at.master first (not (is_tilted first)) (judged plan at.master at.place now info) (judged_touches plan at.master at.place now info first)))
 
-read_at : (plan : Plan) (node : NodeName) (now : ℕ) (read : Result Info TextFault) (core : Core) →
-    At (listed_by (node_named plan node)) core (info_read plan node now read core).core
-read_at plan node now (Err fault) core = same (listed_by (node_named plan node)) core
-read_at plan node now (Ok info) core = info_at plan now (node_named plan node) info core
+read_at : (plan : Plan) (node : NodeName) (now : ℕ) (read : Result Info TextFault) (announced : Bool) (core : Core) →
+    At (listed_by (node_named plan node)) core (info_read plan node now read announced core).core
+read_at plan node now (Err fault) announced core = same (listed_by (node_named plan node)) core
+read_at plan node now (Ok info) announced core =
+    let first = announced_at announced (node_named plan node) core in
+    at_after (listed_by (node_named plan node)) core first (info_of_node plan now (node_named plan node) info first).core
+    (announced_kept announced (node_named plan node) core) (info_at plan now (node_named plan node) info first)
 
 -- Commands
 
@@ -315,6 +354,23 @@ asked_at_most plan now addr epoch candidate None core = same None core
 asked_at_most plan now addr epoch None (Some m) core = same (Some m) core
 asked_at_most plan now addr epoch (Some candidate) (Some m) core =
     at_master m core (requested plan m now epoch candidate core) (requested_touches plan m now epoch candidate core)
+
+switch_changes : (plan : Plan) (m now : ℕ) (busy tilted heir : Bool) (core : Core) →
+    At None core (if busy then unchanged core (reply core [] in_progress)
+    else (if tilted then unchanged core (reply core [] in_tilt)
+    else (if heir then record { core = wished m now core; body = reply core [] ok_line } else unchanged core (reply core [] no_good_replica)))).core
+switch_changes plan m now true tilted heir core = same None core
+switch_changes plan m now false true heir core = same None core
+switch_changes plan m now false false true core = λ k apart. refl
+switch_changes plan m now false false false core = same None core
+
+asked_changes : (plan : Plan) (now : ℕ) (m : Option ℕ) (core : Core) → At None core (asked_to_switch plan now m core).core
+asked_changes plan now None core = same None core
+asked_changes plan now (Some m) core = switch_changes plan m now (is_failing_over core m || is_wished core m now) (is_tilted core) (has_heir plan core m now) core
+
+either_changes : (core : Core) (profile : Profile) (strict redis : Answered) → At None core strict.core → At None core redis.core → At None core (by_profile profile strict redis).core
+either_changes core Strict strict redis f g = f
+either_changes core Redis strict redis f g = g
 
 commanded_at : (plan : Plan) (now : ℕ) (command : Command) (core : Core) → At (asked_about command core.kept) core (commanded plan now command core).core
 commanded_at plan now (IsMasterDownByAddr addr epoch candidate) core = asked_at_most plan now addr epoch candidate (master_with_card core.kept.masters addr) core
@@ -326,6 +382,9 @@ commanded_at plan now (Replicas name) core = same None core
 commanded_at plan now (Sentinels name) core = same None core
 commanded_at plan now MyId core = same None core
 commanded_at plan now (CkQuorum name) core = same None core
+commanded_at plan now (Failover name) core =
+    either_changes core plan.profile (unchanged core (reply core [] (command_fault UnknownCommand))) (asked_to_switch plan now (named plan name) core) (same None core)
+    (asked_changes plan now (named plan name) core)
 commanded_at plan now FlushConfig core = same None core
 commanded_at plan now Subscribe core = same None core
 
@@ -336,9 +395,10 @@ input_at plan now (Tick m random) core = at_master m core (tick plan m random no
 input_at plan now (Commanded sender command) core = commanded_at plan now command core
 input_at plan now (AnswerCame voter m addr down leader epoch) core = answer_at plan voter m now addr down leader epoch core
 input_at plan now (Pinged node reply) core = ping_at plan node now reply core
-input_at plan now (InfoRead node text) core = read_at plan node now (info_of text) core
+input_at plan now (InfoRead node text) core = read_at plan node now (info_of text) (is_announced text) core
 input_at plan now (HelloRead text) core = hello_at plan now (hello_of text) core
 input_at plan now (Disconnected node) core = loss_at plan node core
+input_at plan now (Refused node) core = refused_at plan node core
 input_at plan now (Become priority offset link_down) core = same None core
 input_at plan now (Handed message) core = same None core
 

@@ -1,6 +1,6 @@
 -- The best replica is a node of the master's list, and not that of the configuration.
 use Rattle.std.proofs.Common.{◌≡◌, ℕ, zero, suc, ◌+◌, ◌<◌, Bool, true, false, cond, eqb, Option, Some, None, List, [], ◌∷◌, length, get_or, refl, sym, ap, subst, ◌∙◌, ◌⊎◌, inl, inr, arith}
-use Rattle.std.specs.Prelude.{not, ◌&&◌, ◌||◌, option_map, position}
+use Rattle.std.specs.Prelude.{not, ◌&&◌, ◌||◌, option_map, position, unwrap_or, if◌then◌else◌}
 use Rattle.std.specs.List.{position_or_len}
 use Rattle.std.proofs.lemmas.Bool.{lt-ltb, eqb-true, eqb-false, or_parts, cases_order}
 use Rattle.std.proofs.lemmas.List.Quantifiers.{position-Some}
@@ -12,12 +12,20 @@ use Rattle.replica_choice.specs.declared.candidates.Candidate.{Candidate}
 use Rattle.replica_choice.specs.declared.candidates.Limits.{Limits}
 use Rattle.replica_choice.specs.Choices.{is_eligible, is_better, candidate_at, no_candidate, with_place, choice_below, choice_of}
 use Rattle.ballot_law.proofs.CountedVotes.{both, eqb-same}
+use Rattle.sentinel_rules.specs.Profiles.{by_profile, place_followed, passing, is_taking_over, switched_to, is_given_away, first_of}
+use Rattle.sentinel_rules.specs.declared.profiles.Profile.{Profile}
+use Rattle.sentinel_rules.specs.declared.profiles.Profile.TheVariants.{Strict, Redis}
+use Rattle.sentinel_rules.specs.declared.assumed.TheConstants.{ASSUMED_INFO}
 use Rattle.sentinel_rules.specs.Plans.{Plan, master_count, nodes_of, addr_at, node_place}
 use Rattle.sentinel_rules.specs.States.{Core, node_of, card_place, is_node_down}
-use Rattle.sentinel_rules.specs.Ticks.{at_places, candidate_of, candidates_of, limits_of, best_of}
+use Rattle.sentinel_rules.specs.Ticks.{at_places, candidate_of, candidates_of, limits_of, best_of, best_place}
 use Rattle.sentinel_rules.specs.Answers.{numbers_from}
 use Rattle.sentinel_rules.specs.Facts.{IsSoundPlan}
 use Rattle.sentinel_rules.proofs.Turns.{Best}
+
+not_true : (b : Bool) → not b ≡ true → b ≡ false
+not_true true h = absurd (cc)
+not_true false h = refl
 
 -- Places and addresses
 
@@ -116,17 +124,55 @@ up now limits c h = known c.sdown refl
     known false e = e
     known true e = let never : false ≡ true = rw e at h in absurd (cc)
 
-pub best_awaited : (plan : Plan) (core : Core) (m now : ℕ) → IsSoundPlan plan → m < master_count plan → Best plan core.kept m (best_of plan core m now)
-best_awaited plan core m now p lt = known (choice_of (candidates_of plan core m now) now (limits_of plan core m now)) refl
+-- a place of the list that isn't the configuration's
+abbrev IsOther : Plan → Core → (m : ℕ) → Option ℕ → Type 0
+IsOther plan core m None = Unit {0}
+IsOther plan core m (Some k) = (k < length (nodes_of plan m)) × (k ≡ card_place plan core m → ⊥)
+
+awaited_of : (plan : Plan) (core : Core) (m : ℕ) (choice : Option ℕ) → IsSoundPlan plan → m < master_count plan → IsOther plan core m choice →
+    Best plan core.kept m (option_map (λ k. (k, addr_at plan m k)) choice)
+awaited_of plan core m None p lt o = tt
+awaited_of plan core m (Some k) p lt o =
+    record {
+      listed = o.0;
+      addressed = refl;
+      other = λ same. o.1 (sym (place_of_node plan m k (card_of core.kept m).addr p lt o.0 same));
+    }
+
+-- the node that took over
+passing_other : (plan : Plan) (core : Core) (m now : ℕ) (place : Option ℕ) → ((k : ℕ) → place ≡ Some k → k < length (nodes_of plan m)) →
+    IsOther plan core m (passing place (is_taking_over plan core m now))
+passing_other plan core m now None inside = tt
+passing_other plan core m now (Some k) inside = known (is_taking_over plan core m now k) refl
   where
-    n : ℕ
-    n = length (nodes_of plan m)
+    known : (b : Bool) → is_taking_over plan core m now k ≡ b → IsOther plan core m (if b then Some k else None)
+    known false e = tt
+    known true e = (inside k refl, eqb-false k (card_place plan core m) (not_true (eqb k (card_place plan core m)) (both (not (eqb k (card_place plan core m))) _ e).0))
 
-    f : ℕ → Candidate
-    f = candidate_of plan core m now
+followed_inside : (plan : Plan) (m : ℕ) (addr : Option Addr) (k : ℕ) → place_followed plan m addr ≡ Some k → k < length (nodes_of plan m)
+followed_inside plan m None k e = absurd (cc)
+followed_inside plan m (Some addr) k e = (position-Some (same_addr addr) (nodes_of plan m) k no_addr e).0
 
-    known : (choice : Option ℕ) → choice_of (candidates_of plan core m now) now (limits_of plan core m now) ≡ choice →
-        Best plan core.kept m (option_map (λ k. (k, addr_at plan m k)) choice)
+switched_other : (plan : Plan) (core : Core) (m now : ℕ) (profile : Profile) →
+    IsOther plan core m (by_profile profile None
+    (passing (place_followed plan m (unwrap_or (node_of core m (card_place plan core m)).info ASSUMED_INFO).master) (is_taking_over plan core m now)))
+switched_other plan core m now Strict = tt
+switched_other plan core m now Redis =
+    passing_other plan core m now (place_followed plan m (unwrap_or (node_of core m (card_place plan core m)).info ASSUMED_INFO).master)
+    (λ k e. followed_inside plan m (unwrap_or (node_of core m (card_place plan core m)).info ASSUMED_INFO).master k e)
+
+first_other : (plan : Plan) (core : Core) (m : ℕ) (first second : Option ℕ) → IsOther plan core m first → IsOther plan core m second → IsOther plan core m (first_of first second)
+first_other plan core m None second f g = g
+first_other plan core m (Some k) second f g = f
+
+unless_given_away : (plan : Plan) (core : Core) (m : ℕ) (away : Bool) (told : Option ℕ) → IsOther plan core m told → IsOther plan core m (if away then None else told)
+unless_given_away plan core m true told f = tt
+unless_given_away plan core m false told f = f
+
+told_other : (plan : Plan) (core : Core) (m now : ℕ) → IsOther plan core m (choice_of (candidates_of plan core m now) now (limits_of plan core m now))
+told_other plan core m now = known (choice_of (candidates_of plan core m now) now (limits_of plan core m now)) refl
+  where
+    known : (choice : Option ℕ) → choice_of (candidates_of plan core m now) now (limits_of plan core m now) ≡ choice → IsOther plan core m choice
     known None e = tt
     known (Some k) e =
         let long : length (candidates_of plan core m now) ≡ length (nodes_of plan m) = length-at_places (candidate_of plan core m now) 0 (length (nodes_of plan m)) in
@@ -140,8 +186,12 @@ best_awaited plan core m now p lt = known (choice_of (candidates_of plan core m 
         (or_parts (eqb k (card_place plan core m) || is_node_down plan core m now k) (node_of core m k).lost not_down).0 in
         let apart : k ≡ card_place plan core m → ⊥ = eqb-false k (card_place plan core m)
         (or_parts (eqb k (card_place plan core m)) (is_node_down plan core m now k) up_or_card).0 in
-        record {
-          listed = inside;
-          addressed = refl;
-          other = λ same. apart (sym (place_of_node plan m k (card_of core.kept m).addr p lt inside same));
-        }
+        (inside, apart)
+
+pub best_awaited : (plan : Plan) (core : Core) (m now : ℕ) → IsSoundPlan plan → m < master_count plan → Best plan core.kept m (best_of plan core m now)
+best_awaited plan core m now p lt =
+    awaited_of plan core m (best_place plan core m now) p lt
+    (first_other plan core m (switched_to plan core m now)
+    (if is_given_away plan core m now then None else choice_of (candidates_of plan core m now) now (limits_of plan core m now))
+    (switched_other plan core m now plan.profile)
+    (unless_given_away plan core m (is_given_away plan core m now) (choice_of (candidates_of plan core m now) now (limits_of plan core m now)) (told_other plan core m now)))

@@ -3,7 +3,7 @@ use Rattle.std.proofs.Common.{◌≡◌, ℕ, Bool, true, false, Option, Some, N
 use Rattle.std.specs.Prelude.{not, ◌&&◌, ◌==◌, nat_lt, is_some, Result, Ok, Err, if◌then◌else◌}
 use Rattle.ballot_law.specs.declared.addresses.Addr.{Addr}
 use Rattle.ballot_law.specs.declared.addresses.RunId.{RunId}
-use Rattle.ballot_law.specs.declared.events.Event.TheVariants.{Tick, Command, Answered, Pinged, InfoRead, HelloRead, Disconnected, Become, Handed}
+use Rattle.ballot_law.specs.declared.events.Event.TheVariants.{Tick, Command, Answered, Pinged, InfoRead, HelloRead, Disconnected, Become, Handed, Refused}
 use Rattle.ballot_law.specs.declared.messages.NodeName.{NodeName}
 use Rattle.ballot_law.specs.declared.messages.NodeName.TheVariants.{SentinelAt, StoreAt, ClientAt, PortAt}
 use Rattle.ballot_law.specs.declared.replies.Hello.{Hello}
@@ -14,11 +14,12 @@ use Rattle.ballot_law.specs.Rosters.{master_named}
 use Rattle.node_texts.specs.declared.faults.TextFault.{TextFault}
 use Rattle.node_texts.specs.Hellos.{hello_of}
 use Rattle.node_texts.specs.Infos.{info_of}
+use Rattle.node_texts.specs.Announced.{is_announced}
 use Rattle.ballot_law.specs.declared.node_places.NodePlace.{NodePlace}
 use Rattle.sentinel_rules.specs.Plans.{Plan, roster_of, group_size, master_count, node_named}
 use Rattle.sentinel_rules.specs.States.{Core}
 use Rattle.sentinel_rules.specs.Parts.{quiet, part_if}
-use Rattle.sentinel_rules.specs.News.{is_heeded, hello_heeded, hello_read, answered, pinged, pinged_at, lost_at, connection_lost, info_of_node, info_read}
+use Rattle.sentinel_rules.specs.News.{is_heeded, hello_heeded, hello_read, answered, pinged, pinged_at, lost_at, connection_lost, info_of_node, info_read, refusal_at, refusal_heard, announced_at}
 use Rattle.sentinel_rules.specs.Profiles.{is_redis}
 use Rattle.sentinel_rules.specs.Takes.{cleared, shown_after}
 use Rattle.sentinel_rules.specs.Ignored.{IgnoredChangesNothing, is_hello_heeded, is_info_heeded, is_other, is_data_node, is_peer_or_node}
@@ -68,14 +69,20 @@ loss_ignored plan (StoreAt number) true core h = no_place (node_named plan (Stor
 loss_ignored plan (ClientAt number) true core h = refl
 loss_ignored plan (PortAt number) true core h = refl
 
-at_no_node : (plan : Plan) (now : ℕ) (at : Option NodePlace) (info : Info) (core : Core) → is_some at ≡ false → info_of_node plan now at info core ≡ quiet core
-at_no_node plan now None info core h = refl
-at_no_node plan now (Some at) info core h = absurd (cc)
+refusal_ignored : (plan : Plan) (at : Option NodePlace) (heard : Bool) (core : Core) → (heard && is_some at) ≡ false → (if heard then refusal_at plan at core else core) ≡ core
+refusal_ignored plan at false core h = refl
+refusal_ignored plan None true core h = refl
+refusal_ignored plan (Some at) true core h = absurd (cc)
 
-info_ignored : (plan : Plan) (node : NodeName) (now : ℕ) (read : Result Info TextFault) (core : Core) → is_info_heeded plan node read ≡ false →
-    info_read plan node now read core ≡ quiet core
-info_ignored plan node now (Err fault) core h = refl
-info_ignored plan node now (Ok info) core h = at_no_node plan now (node_named plan node) info core h
+at_no_node : (plan : Plan) (now : ℕ) (at : Option NodePlace) (info : Info) (announced : Bool) (core : Core) → is_some at ≡ false →
+    info_of_node plan now at info (announced_at announced at core) ≡ quiet core
+at_no_node plan now None info announced core h = refl
+at_no_node plan now (Some at) info announced core h = absurd (cc)
+
+info_ignored : (plan : Plan) (node : NodeName) (now : ℕ) (read : Result Info TextFault) (announced : Bool) (core : Core) → is_info_heeded plan node read ≡ false →
+    info_read plan node now read announced core ≡ quiet core
+info_ignored plan node now (Err fault) announced core h = refl
+info_ignored plan node now (Ok info) announced core h = at_no_node plan now (node_named plan node) info announced core h
 
 unheeded : (plan : Plan) (now : ℕ) (heeded : Bool) (m : Option ℕ) (hello : Hello) (core : Core) → (heeded && is_some m) ≡ false →
     part_if heeded core (hello_heeded plan now m hello) ≡ quiet core
@@ -93,9 +100,11 @@ ignored_changes_nothing plan core now (Command sender command) h = absurd (cc)
 ignored_changes_nothing plan core now (Answered voter m addr down leader epoch) h =
     alike (λ after. shown_after plan (quiet after)) _ _ (answer_ignored plan voter m (clock now) addr down leader epoch (cleared core) h)
 ignored_changes_nothing plan core now (Pinged node reply) h = alike (λ after. shown_after plan (quiet after)) _ _ (reply_ignored plan node (clock now) reply (cleared core) h)
-ignored_changes_nothing plan core now (InfoRead node text) h = alike (shown_after plan) _ _ (info_ignored plan node (clock now) (info_of text) (cleared core) h)
+ignored_changes_nothing plan core now (InfoRead node text) h = alike (shown_after plan) _ _ (info_ignored plan node (clock now) (info_of text) (is_announced text) (cleared core) h)
 ignored_changes_nothing plan core now (HelloRead text) h = alike (shown_after plan) _ _ (hello_ignored plan (clock now) (hello_of text) (cleared core) h)
 ignored_changes_nothing plan core now (Disconnected node) h =
     alike (λ after. shown_after plan (quiet after)) _ _ (loss_ignored plan node (is_redis plan.profile) (cleared core) h)
+ignored_changes_nothing plan core now (Refused node) h =
+    alike (λ after. shown_after plan (quiet after)) _ _ (refusal_ignored plan (node_named plan node) (is_redis plan.profile) (cleared core) h)
 ignored_changes_nothing plan core now (Become priority offset link_down) h = refl
 ignored_changes_nothing plan core now (Handed message) h = refl

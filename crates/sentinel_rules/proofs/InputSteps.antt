@@ -1,6 +1,6 @@
 -- Each input by steps of the ballot model.
-use Rattle.std.proofs.Common.{◌≡◌, ℕ, ◌<◌, ◌≤◌, Bool, false, Option, Some, None, List, [], ◌∷◌, length, map, refl, sym, ap, subst, arith}
-use Rattle.std.specs.Prelude.{All, codes, not, ◌&&◌}
+use Rattle.std.proofs.Common.{◌≡◌, ℕ, ◌<◌, ◌≤◌, Bool, true, false, Option, Some, None, List, [], ◌∷◌, length, map, refl, sym, ap, subst, arith}
+use Rattle.std.specs.Prelude.{All, codes, not, ◌&&◌, ◌||◌, if◌then◌else◌}
 use Rattle.std.proofs.lemmas.List.Elements.{All-nil, All-cons}
 use Rattle.std.proofs.lemmas.List.Quantifiers.{position-Some}
 use Rattle.ballot_law.specs.declared.addresses.Addr.{Addr}
@@ -8,9 +8,9 @@ use Rattle.ballot_law.specs.declared.addresses.RunId.{RunId}
 use Rattle.ballot_law.specs.declared.cards.Kept.{Kept}
 use Rattle.ballot_law.specs.declared.cards.KeptMaster.{KeptMaster}
 use Rattle.ballot_law.specs.declared.commands.Command.{Command}
-use Rattle.ballot_law.specs.declared.commands.Command.TheVariants.{Ping, IsMasterDownByAddr, GetMasterAddrByName, Masters, Master, Replicas, Sentinels, MyId, CkQuorum, FlushConfig, Subscribe}
+use Rattle.ballot_law.specs.declared.commands.Command.TheVariants.{Ping, IsMasterDownByAddr, GetMasterAddrByName, Masters, Master, Replicas, Sentinels, MyId, CkQuorum, FlushConfig, Subscribe, Failover}
 use Rattle.ballot_law.specs.declared.events.Event.{Event}
-use Rattle.ballot_law.specs.declared.events.Event.TheVariants.{Tick, Command as Commanded, Answered as AnswerCame, Pinged, InfoRead, HelloRead, Disconnected, Become, Handed}
+use Rattle.ballot_law.specs.declared.events.Event.TheVariants.{Tick, Command as Commanded, Answered as AnswerCame, Pinged, InfoRead, HelloRead, Disconnected, Become, Handed, Refused}
 use Rattle.ballot_law.specs.declared.messages.Body.{Body}
 use Rattle.ballot_law.specs.declared.messages.Body.TheVariants.{Answer, PingText, AddressAnswer}
 use Rattle.ballot_law.specs.declared.messages.NodeName.{NodeName}
@@ -20,25 +20,32 @@ use Rattle.ballot_law.specs.Orders.{same_addr}
 use Rattle.ballot_law.specs.Worlds.{IsRightOutput}
 use Rattle.node_texts.specs.Hellos.{hello_of}
 use Rattle.node_texts.specs.Infos.{info_of}
-use Rattle.resp2.specs.Framing.Frame.{Frame as Reply}
-use Rattle.port_answers.specs.Answers.{master_frame, masters_frame, replicas_frame, sentinels_frame, no_such_master, ok_line, id_frame, subscribed}
+use Rattle.node_texts.specs.Announced.{is_announced}
+use Rattle.sentinel_rules.specs.Rows.{master_frame_by, masters_frame_by, replicas_frame_by, sentinels_frame_by}
+use Rattle.resp2.specs.Framing.Frame.{Frame as Reply, Frame}
+use Rattle.port_answers.specs.Answers.{no_such_master, ok_line, id_frame, subscribed, in_progress, in_tilt, no_good_replica, command_fault}
+use Rattle.resp2.specs.declared.command.CommandFault.TheVariants.{UnknownCommand}
+use Rattle.sentinel_rules.specs.Profiles.{by_profile}
+use Rattle.sentinel_rules.specs.declared.profiles.Profile.{Profile}
+use Rattle.sentinel_rules.specs.declared.profiles.Profile.TheVariants.{Strict, Redis}
+use Rattle.ballot_law.proofs.RosterLemmas.{named_master}
 use Rattle.sentinel_rules.specs.Plans.{Plan, roster_of, me, master_count}
-use Rattle.sentinel_rules.specs.States.{Core, is_tilted, is_master_down}
+use Rattle.sentinel_rules.specs.States.{Core, is_tilted, is_master_down, master_of, is_failing_over, is_wished}
 use Rattle.sentinel_rules.specs.Parts.{Part, quiet, send, shown_of}
 use Rattle.sentinel_rules.specs.Votes.{requested}
-use Rattle.sentinel_rules.specs.News.{answered, pinged, disconnected, info_read, hello_read}
-use Rattle.sentinel_rules.specs.Answers.{Answered, master_with_card, asked_at, asked_of, master_row, replica_rows, sentinel_rows, all_masters, quorum_frame, reply, named, about, address_of, commanded}
+use Rattle.sentinel_rules.specs.News.{answered, pinged, disconnected, info_read, hello_read, refusal_heard}
+use Rattle.sentinel_rules.specs.Answers.{Answered, master_with_card, asked_at, asked_of, master_row, replica_rows, sentinel_rows, all_masters, quorum_frame, reply, named, about, address_of, commanded, unchanged, has_heir, wished, asked_to_switch}
 use Rattle.sentinel_rules.specs.Takes.{Next, next_at, shown_after, answer_to, cleared}
 use Rattle.sentinel_rules.specs.Ticks.{tick}
 use Rattle.sentinel_rules.specs.Facts.{IsSoundPlan, IsSound}
 use Rattle.ballot_law.specs.Limits.{IsWithinEvent}
 use Rattle.sentinel_rules.specs.Steps.{IsPartsOf, IsTake, InputsAreSteps}
 use Rattle.sentinel_rules.proofs.SoundTicks.{tick_keeps}
-use Rattle.sentinel_rules.proofs.SoundNews.{hello_keeps, answered_sound, pinged_sound, disconnected_sound, info_keeps}
+use Rattle.sentinel_rules.proofs.SoundNews.{hello_keeps, answered_sound, pinged_sound, disconnected_sound, info_keeps, refusal_sound}
 use Rattle.sentinel_rules.proofs.SoundInputs.{commanded_sound}
 use Rattle.sentinel_rules.proofs.Framing.{sound_alike}
-use Rattle.sentinel_rules.proofs.StepsTo.{Stepped, StepsTo}
-use Rattle.sentinel_rules.proofs.StepNews.{stay_steps, within_core, requested_steps, hello_steps, answered_steps, pinged_steps, disconnected_steps, info_steps}
+use Rattle.sentinel_rules.proofs.StepsTo.{Stepped, StepsTo, twin_steps, twin_master}
+use Rattle.sentinel_rules.proofs.StepNews.{stay_steps, within_core, requested_steps, hello_steps, answered_steps, pinged_steps, disconnected_steps, info_steps, refusal_steps}
 use Rattle.sentinel_rules.proofs.StepTicks.{tick_steps}
 use Rattle.sentinel_rules.proofs.ShownOutputs.{AreNamed, frames_right, silent, showing, answer_right, shown_right}
 use Rattle.sentinel_rules.proofs.NamedFrames.{tick_frames, hello_frames, info_frames}
@@ -62,6 +69,32 @@ asked_of_steps plan event now addr epoch candidate (Some m) core s f =
 card_within : (plan : Plan) (core : Core) (addr : Addr) → IsSound plan core → (j : ℕ) → master_with_card core.kept.masters addr ≡ Some j → j < master_count plan
 card_within plan core addr s j e = subst (λ (n : ℕ). j < n) s.kept_masters (card_master core.kept.masters addr j e)
 
+-- a wish for a switch is nothing to the model
+switch_steps : (plan : Plan) (event : Event) (m now : ℕ) (busy tilted heir : Bool) (core : Core) → m < length core.masters →
+    StepsTo plan event 2 core (if busy then unchanged core (reply core [] in_progress)
+    else (if tilted then unchanged core (reply core [] in_tilt)
+    else (if heir then record { core = wished m now core; body = reply core [] ok_line } else unchanged core (reply core [] no_good_replica)))).core
+switch_steps plan event m now true tilted heir core lt = stay_steps plan event 2 core
+switch_steps plan event m now false true heir core lt = stay_steps plan event 2 core
+switch_steps plan event m now false false true core lt =
+    twin_steps plan event 2 m core (wished m now core) lt (twin_master core m (record (master_of core m) { wish = Some now }) lt refl)
+switch_steps plan event m now false false false core lt = stay_steps plan event 2 core
+
+named_inside : (plan : Plan) (name : Option (List ℕ)) (m : ℕ) → named plan name ≡ Some m → m < master_count plan
+named_inside plan None m e = absurd (cc)
+named_inside plan (Some name) m e = (named_master (roster_of plan) name m e).0
+
+asked_switch_steps : (plan : Plan) (event : Event) (now : ℕ) (m : Option ℕ) (core : Core) → IsSound plan core → ((j : ℕ) → m ≡ Some j → j < master_count plan) →
+    StepsTo plan event 2 core (asked_to_switch plan now m core).core
+asked_switch_steps plan event now None core s f = stay_steps plan event 2 core
+asked_switch_steps plan event now (Some m) core s f =
+    switch_steps plan event m now (is_failing_over core m || is_wished core m now) (is_tilted core) (has_heir plan core m now) core (within_core plan core m s (f m refl))
+
+either_steps : (plan : Plan) (event : Event) (core : Core) (profile : Profile) (strict redis : Answered) → StepsTo plan event 2 core strict.core → StepsTo plan event 2 core redis.core →
+    StepsTo plan event 2 core (by_profile profile strict redis).core
+either_steps plan event core Strict strict redis f g = f
+either_steps plan event core Redis strict redis f g = g
+
 commanded_steps : (plan : Plan) (event : Event) (now : ℕ) (command : Command) (core : Core) → IsSound plan core → StepsTo plan event 2 core (commanded plan now command core).core
 commanded_steps plan event now (IsMasterDownByAddr addr epoch candidate) core s =
     asked_of_steps plan event now addr epoch candidate (master_with_card core.kept.masters addr) core s (card_within plan core addr s)
@@ -73,6 +106,9 @@ commanded_steps plan event now (Replicas name) core s = stay_steps plan event 2 
 commanded_steps plan event now (Sentinels name) core s = stay_steps plan event 2 core
 commanded_steps plan event now MyId core s = stay_steps plan event 2 core
 commanded_steps plan event now (CkQuorum name) core s = stay_steps plan event 2 core
+commanded_steps plan event now (Failover name) core s =
+    either_steps plan event core plan.profile (unchanged core (reply core [] (command_fault UnknownCommand))) (asked_to_switch plan now (named plan name) core)
+    (stay_steps plan event 2 core) (asked_switch_steps plan event now (named plan name) core s (λ j e. named_inside plan name j e))
 commanded_steps plan event now FlushConfig core s = stay_steps plan event 2 core
 commanded_steps plan event now Subscribe core s = stay_steps plan event 2 core
 
@@ -104,6 +140,10 @@ reply_right : (plan : Plan) (core : Core) (parts : Parts) (target : NodeName) (m
     IsRightBody plan parts target (reply core masters frame)
 reply_right plan core parts target masters frame is = showing plan parts target (reply core masters frame) (shown_right core parts masters is) refl refl refl
 
+-- an answer that shows no configuration
+bare_right : (plan : Plan) (core : Core) (parts : Parts) (target : NodeName) (frame : Frame) → IsRightBody plan parts target (reply core [] frame)
+bare_right plan core parts target frame = silent plan parts target (reply core [] frame) refl refl refl refl
+
 about_right : (plan : Plan) (core : Core) (parts : Parts) (target : NodeName) (m : Option ℕ) (body : ℕ → Body) → IsPartsOf core parts →
     ((j : ℕ) → IsRightBody plan parts target (body j)) → IsRightBody plan parts target (about core m body)
 about_right plan core parts target None body is f = reply_right plan core parts target [] no_such_master is
@@ -114,6 +154,26 @@ address_right : (plan : Plan) (core : Core) (parts : Parts) (target : NodeName) 
 address_right plan core parts target None is = silent plan parts target (AddressAnswer None) refl refl refl refl
 address_right plan core parts target (Some m) is = showing plan parts target (AddressAnswer (Some (shown_of core m))) (shown_right core parts (m ∷ []) is) refl refl refl
 
+switch_right : (plan : Plan) (parts : Parts) (target : NodeName) (m now : ℕ) (busy tilted heir : Bool) (core : Core) →
+    IsRightBody plan parts target (if busy then unchanged core (reply core [] in_progress)
+    else (if tilted then unchanged core (reply core [] in_tilt)
+    else (if heir then record { core = wished m now core; body = reply core [] ok_line } else unchanged core (reply core [] no_good_replica)))).body
+switch_right plan parts target m now true tilted heir core = bare_right plan core parts target in_progress
+switch_right plan parts target m now false true heir core = bare_right plan core parts target in_tilt
+switch_right plan parts target m now false false true core = bare_right plan core parts target ok_line
+switch_right plan parts target m now false false false core = bare_right plan core parts target no_good_replica
+
+asked_switch_right : (plan : Plan) (parts : Parts) (target : NodeName) (now : ℕ) (m : Option ℕ) (core : Core) →
+    IsRightBody plan parts target (asked_to_switch plan now m core).body
+asked_switch_right plan parts target now None core = bare_right plan core parts target no_such_master
+asked_switch_right plan parts target now (Some m) core =
+    switch_right plan parts target m now (is_failing_over core m || is_wished core m now) (is_tilted core) (has_heir plan core m now) core
+
+either_right : (plan : Plan) (parts : Parts) (target : NodeName) (profile : Profile) (strict redis : Answered) → IsRightBody plan parts target strict.body →
+    IsRightBody plan parts target redis.body → IsRightBody plan parts target (by_profile profile strict redis).body
+either_right plan parts target Strict strict redis f g = f
+either_right plan parts target Redis strict redis f g = g
+
 commanded_right : (plan : Plan) (parts : Parts) (target : NodeName) (now : ℕ) (command : Command) (core : Core) → IsSound plan core →
     IsSound plan (commanded plan now command core).core → IsPartsOf (commanded plan now command core).core parts
     → IsRightBody plan parts target (commanded plan now command core).body
@@ -122,20 +182,23 @@ commanded_right plan parts target now (IsMasterDownByAddr addr epoch candidate) 
 commanded_right plan parts target now Ping core s t is = silent plan parts target (PingText false (codes "PONG")) refl refl refl refl
 commanded_right plan parts target now (GetMasterAddrByName name) core s t is = address_right plan core parts target (named plan name) is
 commanded_right plan parts target now Masters core s t is = reply_right plan core parts target (all_masters plan)
-    (masters_frame (map (master_row plan core now) (all_masters plan))) is
+    (masters_frame_by plan.profile (map (master_row plan core now) (all_masters plan))) is
 commanded_right plan parts target now (Master name) core s t is =
-    about_right plan core parts target (named plan name) (λ m. reply core (m ∷ []) (master_frame (master_row plan core now m))) is
-    (λ m. reply_right plan core parts target (m ∷ []) (master_frame (master_row plan core now m)) is)
+    about_right plan core parts target (named plan name) (λ m. reply core (m ∷ []) (master_frame_by plan.profile (master_row plan core now m))) is
+    (λ m. reply_right plan core parts target (m ∷ []) (master_frame_by plan.profile (master_row plan core now m)) is)
 commanded_right plan parts target now (Replicas name) core s t is =
-    about_right plan core parts target (named plan name) (λ m. reply core [] (replicas_frame (replica_rows plan core now m))) is
-    (λ m. reply_right plan core parts target [] (replicas_frame (replica_rows plan core now m)) is)
+    about_right plan core parts target (named plan name) (λ m. reply core [] (replicas_frame_by plan.profile (replica_rows plan core now m))) is
+    (λ m. reply_right plan core parts target [] (replicas_frame_by plan.profile (replica_rows plan core now m)) is)
 commanded_right plan parts target now (Sentinels name) core s t is =
-    about_right plan core parts target (named plan name) (λ m. reply core [] (sentinels_frame (sentinel_rows plan core now))) is
-    (λ m. reply_right plan core parts target [] (sentinels_frame (sentinel_rows plan core now)) is)
+    about_right plan core parts target (named plan name) (λ m. reply core [] (sentinels_frame_by plan.profile (sentinel_rows plan core now m))) is
+    (λ m. reply_right plan core parts target [] (sentinels_frame_by plan.profile (sentinel_rows plan core now m)) is)
 commanded_right plan parts target now MyId core s t is = reply_right plan core parts target [] (id_frame (me plan)) is
 commanded_right plan parts target now (CkQuorum name) core s t is =
     about_right plan core parts target (named plan name) (λ m. reply core [] (quorum_frame plan core now m)) is
     (λ m. reply_right plan core parts target [] (quorum_frame plan core now m) is)
+commanded_right plan parts target now (Failover name) core s t is =
+    either_right plan parts target plan.profile (unchanged core (reply core [] (command_fault UnknownCommand))) (asked_to_switch plan now (named plan name) core)
+    (bare_right plan core parts target (command_fault UnknownCommand)) (asked_switch_right plan parts target now (named plan name) core)
 commanded_right plan parts target now FlushConfig core s t is = reply_right plan core parts target [] ok_line is
 commanded_right plan parts target now Subscribe core s t is = reply_right plan core parts target [] subscribed is
 
@@ -189,15 +252,19 @@ input_by plan core parts now (Pinged node reply) p s is h =
     take_of_part plan core parts (Pinged node reply) 0 (quiet (pinged plan node now reply (cleared core))) (omega arith) p is
     (pinged_sound plan node now reply (cleared core) s) (pinged_steps plan (Pinged node reply) node now reply (cleared core) s) tt
 input_by plan core parts now (InfoRead node text) p s is h =
-    take_of_part plan core parts (InfoRead node text) 1 (info_read plan node now (info_of text) (cleared core)) (omega arith) p is
-    (info_keeps plan node now (info_of text) (cleared core) s).sound (info_steps plan (InfoRead node text) node now (info_of text) (cleared core) s)
-    (info_frames plan node now (info_of text) (cleared core))
+    take_of_part plan core parts (InfoRead node text) 1 (info_read plan node now (info_of text) (is_announced text) (cleared core)) (omega arith) p is
+    (info_keeps plan node now (info_of text) (is_announced text) (cleared core) s).sound
+    (info_steps plan (InfoRead node text) node now (info_of text) (is_announced text) (cleared core) s)
+    (info_frames plan node now (info_of text) (is_announced text) (cleared core))
 input_by plan core parts now (HelloRead text) p s is h =
     take_of_part plan core parts (HelloRead text) 2 (hello_read plan now (hello_of text) (cleared core)) (omega arith) p is
     (hello_keeps plan now text (cleared core) s).sound (hello_steps plan now text (cleared core) s) (hello_frames plan now (hello_of text) (cleared core))
 input_by plan core parts now (Disconnected node) p s is h =
     take_of_part plan core parts (Disconnected node) 0 (quiet (disconnected plan node (cleared core))) (omega arith) p is
     (disconnected_sound plan node (cleared core) s) (disconnected_steps plan (Disconnected node) node (cleared core) s) tt
+input_by plan core parts now (Refused node) p s is h =
+    take_of_part plan core parts (Refused node) 0 (quiet (refusal_heard plan node (cleared core))) (omega arith) p is
+    (refusal_sound plan node (cleared core) s) (refusal_steps plan (Refused node) node (cleared core) s) tt
 input_by plan core parts now (Become priority offset link_down) p s is h =
     take_of_part plan core parts (Become priority offset link_down) 0 (quiet (cleared core)) (omega arith) p is s
     (stay_steps plan (Become priority offset link_down) 0 (cleared core)) tt

@@ -3,7 +3,7 @@ use Rattle.std.proofs.Common.{◌≡◌, ℕ, zero, suc, ◌<◌, refl, Bool, tr
 use Rattle.std.specs.Prelude.{Result, Ok, Err, not, nat_lt, ◌==◌, ◌&&◌, if◌then◌else◌}
 use Rattle.std.proofs.lemmas.Bool.{ltb-true}
 use Rattle.ballot_law.specs.declared.cards.Card.{Card}
-use Rattle.ballot_law.specs.declared.events.Event.TheVariants.{Tick, Command, Answered, Pinged, InfoRead, HelloRead, Disconnected, Become, Handed}
+use Rattle.ballot_law.specs.declared.events.Event.TheVariants.{Tick, Command, Answered, Pinged, InfoRead, HelloRead, Disconnected, Become, Handed, Refused}
 use Rattle.ballot_law.specs.declared.messages.NodeName.{NodeName}
 use Rattle.ballot_law.specs.declared.messages.NodeName.TheVariants.{SentinelAt}
 use Rattle.ballot_law.specs.declared.replies.Hello.{Hello}
@@ -15,20 +15,22 @@ use Rattle.ballot_law.proofs.RosterLemmas.{named_master}
 use Rattle.failover_states.specs.declared.states.FailoverState.{FailoverState}
 use Rattle.failover_states.specs.declared.states.FailoverState.TheVariants.{WaitPromotion}
 use Rattle.failover_states.specs.declared.states.Row.{Row}
-use Rattle.failover_states.specs.declared.states.Row.TheVariants.{Promote}
+use Rattle.failover_states.specs.declared.states.Row.TheVariants.{Promote, PromotionTimeout}
 use Rattle.failover_states.specs.Calls.{choice_of as chosen_place, promoted, reconfigured}
 use Rattle.failover_states.specs.Table.{Turn}
 use Rattle.node_texts.specs.declared.faults.TextFault.{TextFault}
 use Rattle.node_texts.specs.Hellos.{hello_of}
 use Rattle.node_texts.specs.Infos.{info_of}
-use Rattle.sentinel_rules.specs.declared.frames.Frame.TheVariants.{PingTo, InfoTo, HelloTo, AskTo, FollowTo, NoteOf}
+use Rattle.node_texts.specs.Announced.{is_announced}
+use Rattle.sentinel_rules.specs.declared.frames.Frame.TheVariants.{PingTo, InfoTo, HelloTo, AskTo, FollowTo, NoteOf, HandOverTo}
 use Rattle.ballot_law.specs.declared.node_places.NodePlace.{NodePlace}
 use Rattle.sentinel_rules.specs.Plans.{Plan, roster_of, master_count, settings_at, node_name, node_named}
-use Rattle.sentinel_rules.specs.States.{Core, master_of, node_of, failover_of, card_place, is_failing_over, is_tilted, is_master_down, with_master, with_failover, with_card}
+use Rattle.sentinel_rules.specs.States.{is_master_role, Core, master_of, node_of, failover_of, card_place, is_failing_over, is_tilted, is_master_down, with_master, with_failover, with_card, is_planned}
 use Rattle.sentinel_rules.specs.Parts.{Part, quiet, puts, then_part, part_if, frame_if, frames_from}
-use Rattle.sentinel_rules.specs.Ticks.{is_peer_due, peer_frames, peers_part, Sending, sending_of, is_ping_due, is_info_due, is_hello_due, node_frames, nodes_part, turn_of, promote_frames, order_frames, row_part, after_start, start_turn, starts_now, start_part, is_ask_due, ask_candidate, ask_frames, ask_part, odown_part, failover_part, judging_part, master_part, with_reading, tick}
-use Rattle.sentinel_rules.specs.News.{at_same_address, at_new_address, card_taken, is_heeded, is_newer, raised_to, adopted, hello_heeded, hello_read, is_master_role, promotion, has_followed, reconfiguration, wrong_of, can_be_followed, is_role_overdue, is_address_overdue, correction, is_reconfiguring, judged, info_kept, info_of_node, info_read}
-use Rattle.sentinel_rules.specs.Named.{HellosNameMasters}
+use Rattle.sentinel_rules.specs.Ticks.{is_peer_due, peer_frames, peers_part, Sending, sending_of, is_ping_due, is_info_due, is_hello_due, node_frames, nodes_part, turn_of, promote_frames, order_frames, row_part, after_start, start_turn, starts_now, start_part, is_ask_due, ask_candidate, ask_frames, ask_part, odown_part, failover_part, judging_part, master_part, with_reading, tick, planned_start, order_to, hands_over}
+use Rattle.sentinel_rules.specs.News.{at_same_address, at_new_address, card_taken, is_heeded, is_newer, raised_to, adopted, hello_heeded, hello_read, promotion, has_followed, reconfiguration, wrong_of, can_be_followed, is_role_overdue, is_address_overdue, correction, is_reconfiguring, judged, info_kept, info_of_node, info_read, closing_frames, with_frames, announced_at, greeted}
+use Rattle.sentinel_rules.specs.Named.{HellosNameMasters, IsNamed}
+use Rattle.sentinel_rules.specs.Profiles.{is_asking}
 use Rattle.sentinel_rules.proofs.StepNews.{named_within}
 use Rattle.sentinel_rules.proofs.ShownOutputs.{AreNamed, named_append, named_one, named_each, named_if}
 
@@ -50,25 +52,31 @@ nodes_frames plan m now core lt =
     (named_one plan (is_hello_due s node) (HelloTo (node_name plan m k) m) lt)))
     0 (master_of core m).nodes
 
-promote_is : (plan : Plan) (m : ℕ) (row : Option Row) (choice : Option ℕ) → AreNamed plan (promote_frames plan m row choice)
-promote_is plan m None choice = tt
-promote_is plan m (Some Promote) None = tt
-promote_is plan m (Some Promote) (Some k) = (tt, tt)
-promote_is plan m (Some _) choice = tt
+order_is : (plan : Plan) (core : Core) (m k : ℕ) (hands : Bool) → IsNamed plan (order_to plan core m k hands)
+order_is plan core m k true = tt
+order_is plan core m k false = tt
+
+promote_is : (plan : Plan) (core : Core) (m : ℕ) (planned hands : Bool) (row : Option Row) (choice : Option ℕ) →
+    AreNamed plan (promote_frames plan core m planned hands row choice)
+promote_is plan core m planned hands None choice = tt
+promote_is plan core m planned hands (Some Promote) None = tt
+promote_is plan core m planned hands (Some Promote) (Some k) = (order_is plan core m k hands, tt)
+promote_is plan core m planned hands (Some PromotionTimeout) choice = named_one plan planned (HandOverTo (node_name plan m (card_place plan core m)) None) tt
+promote_is plan core m planned hands (Some _) choice = tt
 
 row_frames : (plan : Plan) (m now : ℕ) (core : Core) → AreNamed plan (row_part plan m now core).frames
 row_frames plan m now core =
     let turn : Turn = turn_of plan core m now false in
-    named_append plan (promote_frames plan m turn.row (chosen_place turn.failover.state)) (frames_from (order_frames plan m) 0 turn.failover.replicas)
-    (promote_is plan m turn.row (chosen_place turn.failover.state))
+    named_append plan (promote_frames plan core m (is_planned core m) (hands_over plan core m now) turn.row (chosen_place turn.failover.state)) (frames_from (order_frames plan m) 0 turn.failover.replicas)
+    (promote_is plan core m (is_planned core m) (hands_over plan core m now) turn.row (chosen_place turn.failover.state))
     (named_each plan (order_frames plan m) (λ k replica. named_one plan replica.ordered (FollowTo (node_name plan m k) m) tt) 0 turn.failover.replicas)
 
 start_frames : (plan : Plan) (m now : ℕ) (core : Core) → AreNamed plan (start_part plan m now core).frames
-start_frames plan m now core = named_if plan (not (is_failing_over core m)) core (λ c. quiet (after_start m (start_turn plan c m now) c)) (λ h. tt)
+start_frames plan m now core = named_if plan (not (is_failing_over core m)) core (λ c. quiet (planned_start m now (start_turn plan c m now) c)) (λ h. tt)
 
 ask_is : (plan : Plan) (m now : ℕ) (started : Bool) (core : Core) → AreNamed plan (ask_part plan m now started core).frames
 ask_is plan m now started core =
-    named_if plan (is_master_down plan core m now && is_ask_due started (master_of core m).ask_sent now) core
+    named_if plan (is_asking plan core m now && is_ask_due started (master_of core m).ask_sent now) core
     (λ c. puts (with_master c m (record (master_of c m) { ask_sent = Some now })) (frames_from (ask_frames plan m (ask_candidate plan c m)) 0 c.peers))
     (λ h. named_each plan (ask_frames plan m (ask_candidate plan core m)) (λ k x. named_one plan (not (k == plan.place)) (AskTo k m (ask_candidate plan core m)) tt) 0 core.peers)
 
@@ -119,7 +127,8 @@ heeded_frames : (plan : Plan) (now : ℕ) (m : Option ℕ) (hello : Hello) (core
     AreNamed plan (hello_heeded plan now m hello core).frames
 heeded_frames plan now None hello core found = tt
 heeded_frames plan now (Some m) hello core found =
-    named_if plan (is_newer plan (raised_to hello.current core) m hello.card) (raised_to hello.current core) (adopted plan m now hello.card)
+    named_if plan (is_newer plan (raised_to hello.current (greeted plan now hello core)) m hello.card) (raised_to hello.current (greeted plan now hello core))
+    (adopted plan m now hello.card)
     (λ h. taken_frames plan m now hello.card _ (named_master (roster_of plan) hello.master m found).0)
 
 pub hello_frames : (plan : Plan) (now : ℕ) (read : Result Hello TextFault) (core : Core) → AreNamed plan (hello_read plan now read core).frames
@@ -128,14 +137,22 @@ hello_frames plan now (Ok hello) core =
     named_if plan (is_heeded plan hello) core (hello_heeded plan now (master_named (roster_of plan) hello.master) hello)
     (λ h. heeded_frames plan now (master_named (roster_of plan) hello.master) hello core refl)
 
+closing_is : (plan : Plan) (m heir old : ℕ) (planned : Bool) → AreNamed plan (closing_frames plan m heir old planned)
+closing_is plan m heir old true = (tt, (tt, tt))
+closing_is plan m heir old false = tt
+
 promotion_frames : (plan : Plan) (m k now : ℕ) (info : Info) (state : FailoverState) (core : Core) → m < master_count plan →
     AreNamed plan (promotion plan m k now info state core).frames
 promotion_frames plan m k now info (WaitPromotion epoch choice former) core lt =
     named_if plan ((k == choice.place) && is_master_role info.role) core
-    (λ c. card_taken plan m now (record { epoch = epoch; addr = choice.addr })
+    (λ c. with_frames
+    (card_taken plan m now (record { epoch = epoch; addr = choice.addr })
     (with_failover c m (promoted (WaitPromotion epoch choice former) (record (failover_of c m) { moment = now }))))
-    (λ h. taken_frames plan m now (record { epoch = epoch; addr = choice.addr })
+    (closing_frames plan m k (card_place plan c m) (is_planned c m)))
+    (λ h. named_append plan _ (closing_frames plan m k (card_place plan core m) (is_planned core m))
+    (taken_frames plan m now (record { epoch = epoch; addr = choice.addr })
     (with_failover core m (promoted (WaitPromotion epoch choice former) (record (failover_of core m) { moment = now }))) lt)
+    (closing_is plan m k (card_place plan core m) (is_planned core m)))
 promotion_frames plan m k now info _ core lt = tt
 
 judged_frames : (plan : Plan) (m k now : ℕ) (info : Info) (core : Core) → m < master_count plan → AreNamed plan (judged plan m k now info core).frames
@@ -162,9 +179,11 @@ of_node_frames plan now (Some at) info core within =
     named_if plan (not (is_tilted (info_kept at.master at.place now info core))) (info_kept at.master at.place now info core) (judged plan at.master at.place now info)
     (λ h. judged_frames plan at.master at.place now info (info_kept at.master at.place now info core) (within at refl))
 
-pub info_frames : (plan : Plan) (node : NodeName) (now : ℕ) (read : Result Info TextFault) (core : Core) → AreNamed plan (info_read plan node now read core).frames
-info_frames plan node now (Err fault) core = tt
-info_frames plan node now (Ok info) core = of_node_frames plan now (node_named plan node) info core (named_within plan node)
+pub info_frames : (plan : Plan) (node : NodeName) (now : ℕ) (read : Result Info TextFault) (announced : Bool) (core : Core) →
+    AreNamed plan (info_read plan node now read announced core).frames
+info_frames plan node now (Err fault) announced core = tt
+info_frames plan node now (Ok info) announced core =
+    of_node_frames plan now (node_named plan node) info (announced_at announced (node_named plan node) core) (named_within plan node)
 
 -- One input
 
@@ -173,8 +192,9 @@ hellos_name_masters plan now (Tick m random) core = tick_frames plan m random no
 hellos_name_masters plan now (Command sender command) core = tt
 hellos_name_masters plan now (Answered voter m addr down leader epoch) core = tt
 hellos_name_masters plan now (Pinged node reply) core = tt
-hellos_name_masters plan now (InfoRead node text) core = info_frames plan node now (info_of text) core
+hellos_name_masters plan now (InfoRead node text) core = info_frames plan node now (info_of text) (is_announced text) core
 hellos_name_masters plan now (HelloRead text) core = hello_frames plan now (hello_of text) core
 hellos_name_masters plan now (Disconnected node) core = tt
+hellos_name_masters plan now (Refused node) core = tt
 hellos_name_masters plan now (Become priority offset link_down) core = tt
 hellos_name_masters plan now (Handed message) core = tt

@@ -1,6 +1,6 @@
 -- The epochs of the votes and configurations that are shown.
-use Rattle.std.proofs.Common.{◌≤◌, ℕ, zero, suc, Bool, Option, Some, None, List, [], ◌∷◌, map, slice_index_or, arith}
-use Rattle.std.specs.Prelude.{All, not, ◌&&◌}
+use Rattle.std.proofs.Common.{◌≤◌, ℕ, zero, suc, Bool, true, false, Option, Some, None, List, [], ◌∷◌, map, slice_index_or, arith}
+use Rattle.std.specs.Prelude.{All, not, ◌&&◌, ◌||◌, if◌then◌else◌}
 use Rattle.std.specs.List.{AllZip, AllByRecursion}
 use Rattle.std.proofs.lemmas.List.Elements.{All-nil, All-cons}
 use Rattle.ballot_law.specs.declared.addresses.Addr.{Addr}
@@ -11,7 +11,7 @@ use Rattle.ballot_law.specs.declared.cards.TheConstants.{MAX_EPOCH}
 use Rattle.ballot_law.specs.declared.commands.Command.{Command}
 use Rattle.ballot_law.specs.declared.commands.Command.TheVariants as command
 use Rattle.ballot_law.specs.declared.events.Event.{Event}
-use Rattle.ballot_law.specs.declared.events.Event.TheVariants.{Tick, Command as Commanded, Answered as AnswerCame, Pinged, InfoRead, HelloRead, Disconnected, Become, Handed}
+use Rattle.ballot_law.specs.declared.events.Event.TheVariants.{Tick, Command as Commanded, Answered as AnswerCame, Pinged, InfoRead, HelloRead, Disconnected, Become, Handed, Refused}
 use Rattle.ballot_law.specs.declared.messages.Body.{Body}
 use Rattle.ballot_law.specs.declared.messages.Body.TheVariants.{AddressAnswer}
 use Rattle.ballot_law.specs.Ballots.{no_kept, card_of, voted_of}
@@ -20,11 +20,16 @@ use Rattle.ballot_law.specs.Rosters.{MasterPlan}
 use Rattle.sentinel_conf.specs.Meaning.{ConfPlan}
 use Rattle.sentinel_conf.specs.Rewritten.{IsKeptMaster, IsKeptPart}
 use Rattle.sentinel_rules.specs.declared.frames.Frame.{Frame}
-use Rattle.sentinel_rules.specs.declared.frames.Frame.TheVariants.{PingTo, InfoTo, HelloTo, AskTo, PromoteTo, FollowTo, NoteOf}
+use Rattle.sentinel_rules.specs.declared.frames.Frame.TheVariants.{PingTo, InfoTo, HelloTo, AskTo, PromoteTo, FollowTo, NoteOf, HandOverTo}
+use Rattle.port_answers.specs.Answers.{ok_line, in_progress, in_tilt, no_good_replica, command_fault}
+use Rattle.resp2.specs.declared.command.CommandFault.TheVariants.{UnknownCommand}
+use Rattle.sentinel_rules.specs.Profiles.{by_profile}
+use Rattle.sentinel_rules.specs.declared.profiles.Profile.{Profile}
+use Rattle.sentinel_rules.specs.declared.profiles.Profile.TheVariants.{Strict, Redis}
 use Rattle.sentinel_rules.specs.Plans.{Plan}
-use Rattle.sentinel_rules.specs.States.{Core, is_master_down, is_tilted}
+use Rattle.sentinel_rules.specs.States.{Core, is_master_down, is_tilted, is_failing_over, is_wished}
 use Rattle.sentinel_rules.specs.Parts.{output_of, shown_of}
-use Rattle.sentinel_rules.specs.Answers.{commanded, asked_of, asked_at, address_of, master_with_card, about, named, all_masters}
+use Rattle.sentinel_rules.specs.Answers.{commanded, asked_of, asked_at, address_of, master_with_card, about, named, all_masters, Answered, unchanged, reply, has_heir, wished, asked_to_switch}
 use Rattle.sentinel_rules.specs.Takes.{next_at, part_of, cleared}
 use Rattle.sentinel_rules.specs.Facts.{IsSoundPlan, IsSound}
 use Rattle.ballot_law.specs.Limits.{IsWithinEvent}
@@ -60,6 +65,7 @@ frame_shows plan core (InfoTo target) h = tt
 frame_shows plan core (HelloTo target m) h = tt
 frame_shows plan core (AskTo place m candidate) h = tt
 frame_shows plan core (PromoteTo target) h = tt
+frame_shows plan core (HandOverTo target heir) h = tt
 frame_shows plan core (FollowTo target m) h = tt
 frame_shows plan core (NoteOf m old) h = card_within plan.conf core.kept m h
 
@@ -94,6 +100,24 @@ about_shows : (core : Core) (found : Option ℕ) (answer : ℕ → Body) → ((m
 about_shows core None answer each = tt
 about_shows core (Some m) answer each = each m
 
+switch_shows : (plan : Plan) (m now : ℕ) (busy tilted heir : Bool) (core : Core) →
+    AnswersWithin (if busy then unchanged core (reply core [] in_progress)
+    else (if tilted then unchanged core (reply core [] in_tilt)
+    else (if heir then record { core = wished m now core; body = reply core [] ok_line } else unchanged core (reply core [] no_good_replica)))).body
+switch_shows plan m now true tilted heir core = tt
+switch_shows plan m now false true heir core = tt
+switch_shows plan m now false false true core = tt
+switch_shows plan m now false false false core = tt
+
+asked_switch_shows : (plan : Plan) (now : ℕ) (m : Option ℕ) (core : Core) → AnswersWithin (asked_to_switch plan now m core).body
+asked_switch_shows plan now None core = tt
+asked_switch_shows plan now (Some m) core =
+    switch_shows plan m now (is_failing_over core m || is_wished core m now) (is_tilted core) (has_heir plan core m now) core
+
+either_shows : (profile : Profile) (strict redis : Answered) → AnswersWithin strict.body → AnswersWithin redis.body → AnswersWithin (by_profile profile strict redis).body
+either_shows Strict strict redis f g = f
+either_shows Redis strict redis f g = g
+
 answer_shows : (plan : Plan) (now : ℕ) (c : Command) (core : Core) → IsKeptPart plan.conf (commanded plan now c core).core.kept → AnswersWithin (commanded plan now c core).body
 answer_shows plan now command.Ping core h = tt
 answer_shows plan now (command.IsMasterDownByAddr addr epoch candidate) core h = question_shows plan now addr epoch candidate (master_with_card core.kept.masters addr) core h
@@ -104,6 +128,9 @@ answer_shows plan now (command.Replicas name) core h = about_shows core (named p
 answer_shows plan now (command.Sentinels name) core h = about_shows core (named plan name) _ (λ m. tt)
 answer_shows plan now command.MyId core h = tt
 answer_shows plan now (command.CkQuorum name) core h = about_shows core (named plan name) _ (λ m. tt)
+answer_shows plan now (command.Failover name) core h =
+    either_shows plan.profile (unchanged core (reply core [] (command_fault UnknownCommand))) (asked_to_switch plan now (named plan name) core) tt
+    (asked_switch_shows plan now (named plan name) core)
 answer_shows plan now command.FlushConfig core h = tt
 answer_shows plan now command.Subscribe core h = tt
 
@@ -118,6 +145,7 @@ shows_at plan now (Pinged node reply) core h = All-nil ShowsWithin
 shows_at plan now (InfoRead node text) core h = frames_show plan (part_of plan now (InfoRead node text) core).core (part_of plan now (InfoRead node text) core).frames h
 shows_at plan now (HelloRead text) core h = frames_show plan (part_of plan now (HelloRead text) core).core (part_of plan now (HelloRead text) core).frames h
 shows_at plan now (Disconnected node) core h = All-nil ShowsWithin
+shows_at plan now (Refused node) core h = All-nil ShowsWithin
 shows_at plan now (Become priority offset link_down) core h = All-nil ShowsWithin
 shows_at plan now (Handed message) core h = All-nil ShowsWithin
 

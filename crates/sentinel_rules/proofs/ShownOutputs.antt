@@ -8,7 +8,7 @@ use Rattle.ballot_law.specs.declared.addresses.RunId.{RunId}
 use Rattle.ballot_law.specs.declared.cards.Kept.{Kept}
 use Rattle.ballot_law.specs.declared.cards.Shown.{Shown}
 use Rattle.ballot_law.specs.declared.messages.Body.{Body}
-use Rattle.ballot_law.specs.declared.messages.Body.TheVariants.{Ask, Answer, Ping, InfoAsk, Publish, ReplicaOf}
+use Rattle.ballot_law.specs.declared.messages.Body.TheVariants.{Ask, Answer, Ping, InfoAsk, Publish, ReplicaOf, HandOver}
 use Rattle.ballot_law.specs.declared.messages.NodeName.{NodeName}
 use Rattle.ballot_law.specs.declared.messages.NodeName.TheVariants.{SentinelAt}
 use Rattle.ballot_law.specs.declared.replies.Hello.{Hello}
@@ -20,7 +20,7 @@ use Rattle.ballot_law.specs.Worlds.{IsRightOutput}
 use Rattle.ballot_law.proofs.Placing.{get_or_any}
 use Rattle.ballot_law.proofs.RosterLemmas.{named_master}
 use Rattle.sentinel_rules.specs.declared.frames.Frame.{Frame}
-use Rattle.sentinel_rules.specs.declared.frames.Frame.TheVariants.{PingTo, InfoTo, HelloTo, AskTo, PromoteTo, FollowTo, NoteOf}
+use Rattle.sentinel_rules.specs.declared.frames.Frame.TheVariants.{PingTo, InfoTo, HelloTo, AskTo, PromoteTo, FollowTo, NoteOf, HandOverTo}
 use Rattle.sentinel_rules.specs.Plans.{Plan, roster_of, master_count, nodes_of}
 use Rattle.sentinel_rules.specs.States.{Core}
 use Rattle.sentinel_rules.specs.Parts.{Part, part_if, frame_if, frames_from, send, shown_of, hello_of_master, output_of}
@@ -128,6 +128,7 @@ frame_right plan core parts (HelloTo target m) p s is f = hello_right plan core 
 frame_right plan core parts (AskTo place m candidate) p s is f =
     silent plan parts (SentinelAt place) (Ask m (card_of core.kept m).addr core.kept.current candidate) refl refl refl refl
 frame_right plan core parts (PromoteTo target) p s is f = silent plan parts target (ReplicaOf None) refl refl refl refl
+frame_right plan core parts (HandOverTo target heir) p s is f = silent plan parts target (HandOver heir) refl refl refl refl
 frame_right plan core parts (FollowTo target m) p s is f = silent plan parts target (ReplicaOf (Some (card_of core.kept m).addr)) refl refl refl refl
 frame_right plan core parts (NoteOf m old) p s is f = ap (λ (kept : Kept). card_of kept m) (sym is.kept)
 

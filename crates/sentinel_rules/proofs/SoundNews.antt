@@ -1,9 +1,9 @@
 -- What is heard keeps a core sound, and puts out few frames.
-use Rattle.std.proofs.Common.{◌≡◌, ◌≢◌, ℕ, ◌<◌, ◌≤◌, max, Bool, true, false, eqb, Option, Some, None, List, [], ◌∷◌, length-set, slice_set, refl, sym, ap, subst, ◌∙◌, arith, get_or-set_other}
+use Rattle.std.proofs.Common.{◌≡◌, ◌≢◌, ℕ, ◌+◌, ◌<◌, ◌≤◌, max, Bool, true, false, eqb, Option, Some, None, List, [], ◌∷◌, ◌++◌, length, length-set, slice_set, refl, sym, ap, subst, ◌∙◌, arith, get_or-set_other}
 use Rattle.std.specs.Prelude.{Result, Ok, Err, IfSome, Contains, not, nat_lt, ◌==◌, ◌&&◌, if◌then◌else◌}
 use Rattle.std.specs.List.{list_any}
 use Rattle.std.proofs.lemmas.Bool.{eqb-false}
-use Rattle.std.proofs.lemmas.List.{length-map}
+use Rattle.std.proofs.lemmas.List.{length-append, length-map}
 use Rattle.std.proofs.lemmas.List.Elements.{Contains-get_or}
 use Rattle.std.proofs.lemmas.Map.Views.{Contains-from_any}
 use Rattle.ballot_law.specs.declared.addresses.Addr.{Addr}
@@ -33,12 +33,13 @@ use Rattle.node_texts.proofs.HelloBack.{hello_is}
 use Rattle.ballot_law.proofs.CountedVotes.{both}
 use Rattle.sentinel_rules.specs.declared.frames.Frame.TheVariants.{FollowTo, NoteOf}
 use Rattle.ballot_law.specs.declared.node_places.NodePlace.{NodePlace}
+use Rattle.sentinel_rules.specs.declared.frames.Frame.{Frame}
 use Rattle.sentinel_rules.specs.Plans.{Plan, roster_of, group_size, master_count, settings_at, nodes_of, node_name, node_named}
-use Rattle.sentinel_rules.specs.States.{Core, MasterState, NodeState, master_of, node_of, peer_of, failover_of, card_place, is_failing_over, is_tilted, with_master, with_node, with_failover, with_card}
-use Rattle.sentinel_rules.specs.Parts.{Part, quiet, puts, part_if}
-use Rattle.sentinel_rules.specs.News.{hello_soon, moved, at_same_address, at_new_address, card_taken, is_heeded, is_newer, raised_to, adopted, hello_of_known, hello_heeded, hello_read, reported, vote_heard, answer_of, answered, node_pinged, peer_pinged, pinged_at, pinged, node_lost, peer_lost, lost_at, connection_lost, disconnected, with_info, is_master_role, promotion, has_followed, reconfiguration, Wrong, wrong_of, can_be_followed, is_role_overdue, is_address_overdue, anew, correction, is_reconfiguring, judged, info_kept, info_at_node, info_of_node, info_read}
+use Rattle.sentinel_rules.specs.States.{is_master_role, Core, MasterState, NodeState, master_of, node_of, peer_of, failover_of, card_place, is_failing_over, is_tilted, with_master, with_node, with_failover, with_card, is_handed, is_planned}
+use Rattle.sentinel_rules.specs.Parts.{Part, quiet, puts, part_if, frame_if}
+use Rattle.sentinel_rules.specs.News.{hello_soon, moved, at_same_address, at_new_address, card_taken, is_heeded, is_newer, raised_to, adopted, hello_of_known, hello_heeded, hello_read, reported, vote_heard, answer_of, answered, node_pinged, peer_pinged, pinged_at, pinged, node_lost, peer_lost, lost_at, connection_lost, disconnected, with_info, promotion, has_followed, reconfiguration, Wrong, wrong_of, can_be_followed, is_role_overdue, is_address_overdue, anew, correction, is_reconfiguring, judged, info_kept, info_at_node, info_of_node, info_read, closing_frames, with_frames, refusal_at, refusal_heard, peer_greeted, greeted_at, greeted, node_announced, announced_at}
 use Rattle.sentinel_rules.specs.Facts.{IsSound, IsAwaited, awaited}
-use Rattle.sentinel_rules.specs.Profiles.{is_redis}
+use Rattle.sentinel_rules.specs.Profiles.{is_redis, candidate_place}
 use Rattle.sentinel_rules.proofs.KeptParts.{kept_at, kept_with, kept_raised, other_entry}
 use Rattle.sentinel_rules.proofs.Framing.{sound_at, sound_master, sound_current, sound_alike, nodes_with, master_same}
 use Rattle.sentinel_rules.proofs.Turns.{IsSoundFailover, ended_sound}
@@ -152,10 +153,17 @@ known_keeps plan m now text hello core spelled s =
     t : IsSound plan high
     t = raised_sound plan hello.current core spelled.is_hello.current s
 
+pub greeted_at_sound : (plan : Plan) (now : ℕ) (at : Option ℕ) (core : Core) → IsSound plan core → IsSound plan (greeted_at now at core)
+greeted_at_sound plan now None core s = s
+greeted_at_sound plan now (Some place) core s =
+    sound_alike plan core (record core { peers = slice_set core.peers place (peer_greeted now (peer_of core place)) }) refl refl
+    (length-set core.peers place (peer_greeted now (peer_of core place))) s
+
 heeded_keeps : (plan : Plan) (now : ℕ) (m : Option ℕ) (text : List ℕ) (hello : Hello) (core : Core) → SpellsHello text hello → IsSound plan core →
     KeepsSound plan 1 (hello_heeded plan now m hello core)
 heeded_keeps plan now None text hello core spelled s = keeps_quiet plan 1 core s
-heeded_keeps plan now (Some m) text hello core spelled s = known_keeps plan m now text hello core spelled s
+heeded_keeps plan now (Some m) text hello core spelled s =
+    known_keeps plan m now text hello (greeted plan now hello core) spelled (greeted_at_sound plan now (candidate_place plan (Some hello.id)) core s)
 
 read_keeps : (plan : Plan) (now : ℕ) (text : List ℕ) (read : Result Hello TextFault) (core : Core) → hello_of text ≡ read → IsSound plan core →
     KeepsSound plan 1 (hello_read plan now read core)
@@ -270,28 +278,59 @@ pub disconnected_sound : (plan : Plan) (node : NodeName) (core : Core) → IsSou
 disconnected_sound plan node core s =
     sound_cond plan (is_redis plan.profile) (connection_lost plan node core) core (λ h. lost_sound plan node core s) (λ h. s)
 
+-- Masters that refuse to hand over
+
+refusal_at_sound : (plan : Plan) (at : Option NodePlace) (core : Core) → IsSound plan core → IsSound plan (refusal_at plan at core)
+refusal_at_sound plan None core s = s
+refusal_at_sound plan (Some at) core s =
+    sound_cond plan (is_handed core at.master && (at.place == card_place plan core at.master))
+    (with_master core at.master (record (master_of core at.master) { refused = true })) core
+    (λ h. sound_master plan core at.master (record (master_of core at.master) { refused = true }) s
+    (λ lt. master_alike plan core.kept at.master (master_of core at.master) (record (master_of core at.master) { refused = true }) (s.each at.master lt) refl refl refl refl))
+    (λ h. s)
+
+pub refusal_sound : (plan : Plan) (node : NodeName) (core : Core) → IsSound plan core → IsSound plan (refusal_heard plan node core)
+refusal_sound plan node core s =
+    sound_cond plan (is_redis plan.profile) (refusal_at plan (node_named plan node) core) core (λ h. refusal_at_sound plan (node_named plan node) core s) (λ h. s)
+
 -- INFO
 
+closing_few : (plan : Plan) (m heir old : ℕ) (planned : Bool) → length (closing_frames plan m heir old planned) ≤ 2
+closing_few plan m heir old true = omega arith
+closing_few plan m heir old false = omega arith
+
+keeps_frames : (plan : Plan) (room more : ℕ) (part : Part) (frames : List Frame) → length frames ≤ more → KeepsSound plan room part → KeepsSound plan (room + more) (with_frames part frames)
+keeps_frames plan room more part frames few f =
+    record {
+      sound = f.sound;
+      few = let a : length part.frames ≤ room = f.few in
+          let e : length (part.frames ++ frames) ≡ length part.frames + length frames = length-append part.frames frames in
+          omega (arith, a, e, few);
+    }
+
 promotion_keeps : (plan : Plan) (m k now : ℕ) (info : Info) (state : FailoverState) (core : Core) → (failover_of core m).state ≡ state → IsSound plan core →
-    KeepsSound plan 1 (promotion plan m k now info state core)
+    KeepsSound plan 3 (promotion plan m k now info state core)
 promotion_keeps plan m k now info (WaitPromotion epoch choice former) core e s =
-    keeps_if plan 1 ((k == choice.place) && is_master_role info.role) core
-    (λ c. card_taken plan m now (record { epoch = epoch; addr = choice.addr })
-    (with_failover c m (promoted (WaitPromotion epoch choice former) (record (failover_of c m) { moment = now })))) s
-    (λ h. card_keeps plan m now (record { epoch = epoch; addr = choice.addr }) (with_failover core m f)
+    keeps_if plan 3 ((k == choice.place) && is_master_role info.role) core
+    (λ c. with_frames
+    (card_taken plan m now (record { epoch = epoch; addr = choice.addr })
+    (with_failover c m (promoted (WaitPromotion epoch choice former) (record (failover_of c m) { moment = now }))))
+    (closing_frames plan m k (card_place plan c m) (is_planned c m))) s
+    (λ h. keeps_frames plan 1 2 _ (closing_frames plan m k (card_place plan core m) (is_planned core m)) (closing_few plan m k (card_place plan core m) (is_planned core m))
+    (card_keeps plan m now (record { epoch = epoch; addr = choice.addr }) (with_failover core m f)
     (sound_failover plan core m f s (λ lt. record { replicas = length-map (failover_of core m).replicas forgotten ∙ (s.each m lt).replicas; epoch = low lt; choice = tt }))
     low
     (λ lt. let c : IsAwaited plan core.kept m choice = subst (λ (st : FailoverState). IfSome (awaited st) (IsAwaited plan core.kept m)) e (s.each m lt).choice in
     subst (λ (addr : Addr). Contains (nodes_of plan m) addr) (sym c.addressed) (Contains-get_or (nodes_of plan m) choice.place no_addr c.listed))
     (λ lt. ap (λ (master : MasterState). awaited master.failover.state)
-    (master_same core m (record (master_of core m) { failover = f }) (subst (λ (n : ℕ). m < n) (sym s.masters) lt))))
+    (master_same core m (record (master_of core m) { failover = f }) (subst (λ (n : ℕ). m < n) (sym s.masters) lt)))))
   where
     f : Failover
     f = promoted (WaitPromotion epoch choice former) (record (failover_of core m) { moment = now })
 
     low : m < master_count plan → epoch ≤ core.kept.current
     low lt = subst (λ (st : FailoverState). IfSome (epoch_of st) (λ epoch. epoch ≤ core.kept.current)) e (s.each m lt).epoch
-promotion_keeps plan m k now info _ core e s = keeps_quiet plan 1 core s
+promotion_keeps plan m k now info _ core e s = keeps_quiet plan 3 core s
 
 pub reconfigured_sound : (plan : Plan) (kept : Kept) (m : ℕ) (state : FailoverState) (f : Failover) (k : ℕ) → IsSoundFailover plan kept m f →
     IsSoundFailover plan kept m (reconfigured state f k)
@@ -299,46 +338,54 @@ reconfigured_sound plan kept m (ReconfReplicas epoch choice former) f k s =
     record { replicas = length-set f.replicas k (followed (replica_at f.replicas k)) ∙ s.replicas; epoch = s.epoch; choice = s.choice }
 reconfigured_sound plan kept m _ f k s = s
 
-reconfiguration_keeps : (plan : Plan) (m k : ℕ) (info : Info) (core : Core) → IsSound plan core → KeepsSound plan 1 (reconfiguration m k info core)
+reconfiguration_keeps : (plan : Plan) (m k : ℕ) (info : Info) (core : Core) → IsSound plan core → KeepsSound plan 3 (reconfiguration m k info core)
 reconfiguration_keeps plan m k info core s =
-    keeps_if plan 1 (has_followed info (card_of core.kept m).addr) core (λ c. quiet (with_failover c m (reconfigured (failover_of c m).state (failover_of c m) k))) s
-    (λ h. keeps_quiet plan 1 (with_failover core m (reconfigured (failover_of core m).state (failover_of core m) k))
+    keeps_if plan 3 (has_followed info (card_of core.kept m).addr) core (λ c. quiet (with_failover c m (reconfigured (failover_of c m).state (failover_of c m) k))) s
+    (λ h. keeps_quiet plan 3 (with_failover core m (reconfigured (failover_of core m).state (failover_of core m) k))
     (sound_failover plan core m (reconfigured (failover_of core m).state (failover_of core m) k) s
     (λ lt. reconfigured_sound plan core.kept m (failover_of core m).state (failover_of core m) k (own_failover plan core m s lt))))
 
-correction_keeps : (plan : Plan) (m k now : ℕ) (info : Info) (core : Core) → IsSound plan core → KeepsSound plan 1 (correction plan m k now info core)
+correction_keeps : (plan : Plan) (m k now : ℕ) (info : Info) (core : Core) → IsSound plan core → KeepsSound plan 3 (correction plan m k now info core)
 correction_keeps plan m k now info core s =
     let wrong : Wrong = wrong_of now info (card_of core.kept m).addr (node_of core m k) in
     let role_told : Bool = is_role_overdue now wrong && can_be_followed plan core m now in
     let address_told : Bool = is_address_overdue (settings_at plan m).timeout now wrong && can_be_followed plan core m now in
     record {
       sound = node_sound plan core m k (record (node_of core m k) { wrong_role = anew role_told now wrong.role; wrong_address = anew address_told now wrong.address }) s;
-      few = one_frame (if role_told then true else address_told) (FollowTo (node_name plan m k) m);
+      few = let l : length (frame_if (if role_told then true else address_told) (FollowTo (node_name plan m k) m)) ≤ 1 =
+          one_frame (if role_told then true else address_told) (FollowTo (node_name plan m k) m) in omega (arith, l);
     }
 
 keeps_cond : (plan : Plan) (room : ℕ) (test : Bool) (a b : Part) → KeepsSound plan room a → KeepsSound plan room b → KeepsSound plan room (if test then a else b)
 keeps_cond plan room true a b f g = f
 keeps_cond plan room false a b f g = g
 
-judged_keeps : (plan : Plan) (m k now : ℕ) (info : Info) (core : Core) → IsSound plan core → KeepsSound plan 1 (judged plan m k now info core)
+judged_keeps : (plan : Plan) (m k now : ℕ) (info : Info) (core : Core) → IsSound plan core → KeepsSound plan 3 (judged plan m k now info core)
 judged_keeps plan m k now info core s =
-    keeps_cond plan 1 (is_failing_over core m)
+    keeps_cond plan 3 (is_failing_over core m)
     (if is_reconfiguring (failover_of core m).state then reconfiguration m k info core else promotion plan m k now info (failover_of core m).state core)
     (part_if (not (k == card_place plan core m)) core (correction plan m k now info))
-    (keeps_cond plan 1 (is_reconfiguring (failover_of core m).state) (reconfiguration m k info core) (promotion plan m k now info (failover_of core m).state core)
+    (keeps_cond plan 3 (is_reconfiguring (failover_of core m).state) (reconfiguration m k info core) (promotion plan m k now info (failover_of core m).state core)
     (reconfiguration_keeps plan m k info core s) (promotion_keeps plan m k now info (failover_of core m).state core refl s))
-    (keeps_if plan 1 (not (k == card_place plan core m)) core (correction plan m k now info) s (λ h. correction_keeps plan m k now info core s))
+    (keeps_if plan 3 (not (k == card_place plan core m)) core (correction plan m k now info) s (λ h. correction_keeps plan m k now info core s))
 
-at_node_keeps : (plan : Plan) (m k now : ℕ) (info : Info) (core : Core) → IsSound plan core → KeepsSound plan 1 (info_at_node plan m k now info core)
+at_node_keeps : (plan : Plan) (m k now : ℕ) (info : Info) (core : Core) → IsSound plan core → KeepsSound plan 3 (info_at_node plan m k now info core)
 at_node_keeps plan m k now info core s =
     let t : IsSound plan (info_kept m k now info core) = node_sound plan core m k (with_info now info (node_of core m k)) s in
-    keeps_if plan 1 (not (is_tilted (info_kept m k now info core))) (info_kept m k now info core) (judged plan m k now info) t
+    keeps_if plan 3 (not (is_tilted (info_kept m k now info core))) (info_kept m k now info core) (judged plan m k now info) t
     (λ h. judged_keeps plan m k now info (info_kept m k now info core) t)
 
-of_node_keeps : (plan : Plan) (now : ℕ) (at : Option NodePlace) (info : Info) (core : Core) → IsSound plan core → KeepsSound plan 1 (info_of_node plan now at info core)
-of_node_keeps plan now None info core s = keeps_quiet plan 1 core s
+of_node_keeps : (plan : Plan) (now : ℕ) (at : Option NodePlace) (info : Info) (core : Core) → IsSound plan core → KeepsSound plan 3 (info_of_node plan now at info core)
+of_node_keeps plan now None info core s = keeps_quiet plan 3 core s
 of_node_keeps plan now (Some at) info core s = at_node_keeps plan at.master at.place now info core s
 
-pub info_keeps : (plan : Plan) (node : NodeName) (now : ℕ) (read : Result Info TextFault) (core : Core) → IsSound plan core → KeepsSound plan 1 (info_read plan node now read core)
-info_keeps plan node now (Err fault) core s = keeps_quiet plan 1 core s
-info_keeps plan node now (Ok info) core s = of_node_keeps plan now (node_named plan node) info core s
+pub announced_at_sound : (plan : Plan) (announced : Bool) (at : Option NodePlace) (core : Core) → IsSound plan core → IsSound plan (announced_at announced at core)
+announced_at_sound plan announced None core s = s
+announced_at_sound plan announced (Some at) core s = node_sound plan core at.master at.place (node_announced announced (node_of core at.master at.place)) s
+
+pub info_keeps : (plan : Plan) (node : NodeName) (now : ℕ) (read : Result Info TextFault) (announced : Bool) (core : Core) → IsSound plan core →
+    KeepsSound plan 3 (info_read plan node now read announced core)
+info_keeps plan node now (Err fault) announced core s = keeps_quiet plan 3 core s
+info_keeps plan node now (Ok info) announced core s =
+    of_node_keeps plan now (node_named plan node) info (announced_at announced (node_named plan node) core)
+    (announced_at_sound plan announced (node_named plan node) core s)

@@ -14,7 +14,7 @@ use Rattle.ballot_law.proofs.CountedVotes.{both}
 use Rattle.failover_states.specs.declared.states.FailoverState.{FailoverState}
 use Rattle.failover_states.specs.declared.states.FailoverState.TheVariants.{Idle, WaitStart, SelectReplica, SendPromotion, WaitPromotion, ReconfReplicas, UpdateConfig}
 use Rattle.failover_states.specs.declared.states.Row.{Row}
-use Rattle.failover_states.specs.declared.states.Row.TheVariants.{StartFailover, Elected, Promote}
+use Rattle.failover_states.specs.declared.states.Row.TheVariants.{StartFailover, Elected, Promote, PromotionTimeout}
 use Rattle.failover_states.specs.Calls.{epoch_of, choice_of as chosen_place}
 use Rattle.failover_states.specs.Failovers.{Failover}
 use Rattle.failover_states.specs.Known.{Known}
@@ -22,13 +22,14 @@ use Rattle.failover_states.specs.Replicas.{unordered}
 use Rattle.failover_states.specs.Table.{Turn, turned, table, quieted, may_start, started, is_long_ago}
 use Rattle.sentinel_rules.specs.declared.frames.Frame.{Frame}
 use Rattle.sentinel_rules.specs.declared.frames.TheConstants.{FRAMES_MAX}
-use Rattle.sentinel_rules.specs.declared.frames.Frame.TheVariants.{PingTo, InfoTo, HelloTo, FollowTo, AskTo}
+use Rattle.sentinel_rules.specs.declared.frames.Frame.TheVariants.{PingTo, InfoTo, HelloTo, FollowTo, AskTo, HandOverTo}
 use Rattle.sentinel_rules.specs.Plans.{Plan, me, group_size, master_count, nodes_of, node_name}
-use Rattle.sentinel_rules.specs.States.{Core, MasterState, NodeState, master_of, failover_of, is_idle, is_failing_over, is_tilted, is_master_down, is_odown_at, with_master, with_failover, with_current}
+use Rattle.sentinel_rules.specs.States.{Core, MasterState, NodeState, master_of, failover_of, is_idle, is_failing_over, is_tilted, is_master_down, is_odown_at, with_master, with_failover, with_current, is_wished, is_planned, card_place}
 use Rattle.sentinel_rules.specs.Parts.{Part, quiet, puts, then_part, part_if, frame_if, changed_from, frames_from}
-use Rattle.sentinel_rules.specs.Profiles.{election_ms, marked_at, marked, rest_of, rested_at, rested}
+use Rattle.sentinel_rules.specs.Profiles.{is_asking, election_ms, marked_at, marked, rest_of, rested_at, rested}
 use Rattle.sentinel_rules.specs.Votes.{book_of, with_book, mark_for}
-use Rattle.sentinel_rules.specs.Ticks.{is_peer_due, peer_after, peer_frames, peers_part, Sending, sending_of, is_ping_due, is_info_due, is_hello_due, node_after, node_frames, nodes_part, campaign_epoch, known_of, turn_of, with_vote, with_win, promote_frames, order_frames, row_part, after_start, is_start_due, start_turn, starts_now, start_part, is_ask_due, ask_candidate, ask_frames, ask_part, odown_part, failover_part, judging_part, master_part, with_reading, tick}
+use Rattle.sentinel_rules.specs.Contacts.{since_after}
+use Rattle.sentinel_rules.specs.Ticks.{is_peer_due, peer_after, peer_frames, peers_part, Sending, sending_of, is_ping_due, is_info_due, is_hello_due, node_after, node_frames, nodes_part, campaign_epoch, known_of, turn_of, with_vote, with_win, promote_frames, order_frames, row_part, after_start, is_start_due, start_turn, starts_now, start_part, is_ask_due, ask_candidate, ask_frames, ask_part, odown_part, failover_part, judging_part, master_part, with_reading, tick, planned_start, with_plan, planned_if, hands_over}
 use Rattle.sentinel_rules.specs.Facts.{IsSoundPlan, IsSound, IsSoundMaster, IsAwaited, awaited}
 use Rattle.sentinel_rules.proofs.KeptParts.{kept_at, kept_with, kept_raised, other_entry, own_entry as own}
 use Rattle.sentinel_rules.proofs.Framing.{sound_at, sound_master, sound_current, sound_alike, master_with, nodes_with, master_later}
@@ -163,9 +164,14 @@ odown_keeps plan m now core s =
     keeps_quiet
     plan
     0
-    (with_master core m (record (master_of core m) { odown = is_odown_at plan core m now }))
-    (sound_master plan core m (record (master_of core m) { odown = is_odown_at plan core m now }) s
-    (λ lt. master_alike plan core.kept m (master_of core m) (record (master_of core m) { odown = is_odown_at plan core m now }) (s.each m lt) refl refl refl refl))
+    (with_master core m found)
+    (sound_master plan core m found s (λ lt. master_alike plan core.kept m (master_of core m) found (s.each m lt) refl refl refl refl))
+  where
+    found : MasterState
+    found = record (master_of core m) {
+      odown = is_odown_at plan core m now;
+      odown_since = since_after (is_odown_at plan core m now) now (master_of core m).odown_since;
+    }
 
 -- Votes
 
@@ -257,11 +263,13 @@ win_sound plan m epoch None core s = s
 win_sound plan m epoch (Some Elected) core s = sound_alike plan core (record core { won = Some (record { master = m; epoch = epoch }) }) refl refl refl s
 win_sound plan m epoch (Some _) core s = s
 
-promote_few : (plan : Plan) (m : ℕ) (row : Option Row) (choice : Option ℕ) → length (promote_frames plan m row choice) ≤ 1
-promote_few plan m None choice = omega arith
-promote_few plan m (Some Promote) None = omega arith
-promote_few plan m (Some Promote) (Some k) = omega arith
-promote_few plan m (Some _) choice = omega arith
+promote_few : (plan : Plan) (core : Core) (m : ℕ) (planned hands : Bool) (row : Option Row) (choice : Option ℕ) →
+    length (promote_frames plan core m planned hands row choice) ≤ 1
+promote_few plan core m planned hands None choice = omega arith
+promote_few plan core m planned hands (Some Promote) None = omega arith
+promote_few plan core m planned hands (Some Promote) (Some k) = omega arith
+promote_few plan core m planned hands (Some PromotionTimeout) choice = one_frame planned (HandOverTo (node_name plan m (card_place plan core m)) None)
+promote_few plan core m planned hands (Some _) choice = omega arith
 
 campaign_within : (kept : Kept) (epoch : Option ℕ) → kept.current ≤ MAX_EPOCH → IfSome epoch (λ e. e ≤ kept.current) → unwrap_or epoch 0 ≤ MAX_EPOCH
 campaign_within kept None h le = omega arith
@@ -290,7 +298,7 @@ row_keeps plan m now core p lt busy s =
     let turn : Turn = turn_of plan core m now false in
     let epoch : ℕ = campaign_epoch core m in
     let f : IsSoundFailover plan core.kept m turn.failover = turn_of_sound plan core m now p s lt busy in
-    let promotes : List Frame = promote_frames plan m turn.row (chosen_place turn.failover.state) in
+    let promotes : List Frame = promote_frames plan core m (is_planned core m) (hands_over plan core m now) turn.row (chosen_place turn.failover.state) in
     let orders : List Frame = frames_from (order_frames plan m) 0 turn.failover.replicas in
     record {
       sound = rested_sound plan m now (rest_of plan.profile turn.row (election_ms plan m))
@@ -299,7 +307,7 @@ row_keeps plan m now core p lt busy s =
           (vote_sound plan m now epoch turn.vote (with_failover core m turn.failover)
           (campaign_within core.kept (epoch_of (failover_of core m).state) s.kept.current (s.each m lt).epoch)
           (sound_failover plan core m turn.failover s (λ l. f))));
-      few = let a : length promotes ≤ 1 = promote_few plan m turn.row (chosen_place turn.failover.state) in
+      few = let a : length promotes ≤ 1 = promote_few plan core m (is_planned core m) (hands_over plan core m now) turn.row (chosen_place turn.failover.state) in
           let b : length orders ≤ length turn.failover.replicas =
           one_each (order_frames plan m) (λ k replica. one_frame replica.ordered (FollowTo (node_name plan m k) m)) 0 turn.failover.replicas in
           let c : length turn.failover.replicas ≡ length (nodes_of plan m) = f.replicas in
@@ -334,7 +342,7 @@ start_within f k h = ltb-true k.current MAX_EPOCH (third k.odown (is_long_ago f.
 pub as_idle : (f : Failover) → f.state ≡ Idle → f ≡ record f { state = Idle }
 as_idle f idle = ap (λ (state : FailoverState). let x : Failover = record f { state = state } in x) idle
 
-start_sound : (plan : Plan) (m now : ℕ) (core : Core) → IsSound plan core → (failover_of core m).state ≡ Idle → IsSound plan (after_start m (start_turn plan core m now) core)
+pub start_sound : (plan : Plan) (m now : ℕ) (core : Core) → IsSound plan core → (failover_of core m).state ≡ Idle → IsSound plan (after_start m (start_turn plan core m now) core)
 start_sound plan m now core s idle = subst (λ (f : Failover). IsSound plan (after_start m (turned f k) core)) (sym (as_idle (failover_of core m) idle)) from_idle
   where
     k : Known
@@ -362,10 +370,26 @@ start_sound plan m now core s idle = subst (λ (f : Failover). IsSound plan (aft
         (sound_failover plan core m (quieted f) s (λ lt. record { replicas = long lt; epoch = tt; choice = tt }))
         (begun, tt)
 
+-- what is kept of a switch that was asked for is nothing to the model
+pub plan_sound : (plan : Plan) (m now : ℕ) (core : Core) → IsSound plan core → IsSound plan (with_plan m now core)
+plan_sound plan m now core s =
+    sound_master plan core m planned_master s
+    (λ lt. master_alike plan core.kept m (master_of core m) planned_master (s.each m lt) refl refl refl refl)
+  where
+    planned_master : MasterState
+    planned_master =
+        record (master_of core m) { wish = None; planned = planned_if (is_wished core m now) (epoch_of (failover_of core m).state); refused = false }
+
+planned_sound : (plan : Plan) (m now : ℕ) (begins : Bool) (core : Core) → IsSound plan core → IsSound plan (if begins then with_plan m now core else core)
+planned_sound plan m now true core s = plan_sound plan m now core s
+planned_sound plan m now false core s = s
+
 pub start_keeps : (plan : Plan) (m now : ℕ) (core : Core) → IsSound plan core → KeepsSound plan 0 (start_part plan m now core)
 start_keeps plan m now core s =
-    keeps_if plan 0 (not (is_failing_over core m)) core (λ c. quiet (after_start m (start_turn plan c m now) c)) s
-    (λ h. keeps_quiet plan 0 (after_start m (start_turn plan core m now) core) (start_sound plan m now core s (idle_is (failover_of core m).state h)))
+    keeps_if plan 0 (not (is_failing_over core m)) core (λ c. quiet (planned_start m now (start_turn plan c m now) c)) s
+    (λ h. keeps_quiet plan 0 (planned_start m now (start_turn plan core m now) core)
+    (planned_sound plan m now (is_some (start_turn plan core m now).row) (after_start m (start_turn plan core m now) core)
+    (start_sound plan m now core s (idle_is (failover_of core m).state h))))
 
 -- The whole tick
 
@@ -374,7 +398,7 @@ ask_keeps plan m now started core p s =
     keeps_if
     plan
     64
-    (is_master_down plan core m now && is_ask_due started (master_of core m).ask_sent now)
+    (is_asking plan core m now && is_ask_due started (master_of core m).ask_sent now)
     core
     (λ c. puts (with_master c m (record (master_of c m) { ask_sent = Some now })) (frames_from (ask_frames plan m (ask_candidate plan c m)) 0 c.peers))
     s

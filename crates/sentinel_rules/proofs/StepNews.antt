@@ -34,15 +34,15 @@ use Rattle.ballot_law.proofs.CountedVotes.{both}
 use Rattle.ballot_law.specs.declared.node_places.NodePlace.{NodePlace}
 use Rattle.ballot_law.specs.NodePlaces.{node_numbered}
 use Rattle.sentinel_rules.specs.Plans.{Plan, roster_of, me, group_size, master_count, settings_at, nodes_of, node_named}
-use Rattle.sentinel_rules.specs.States.{Core, MasterState, NodeState, master_of, node_of, peer_of, failover_of, card_place, is_failing_over, is_tilted, with_master, with_node, with_failover, with_current, with_card}
+use Rattle.sentinel_rules.specs.States.{is_master_role, Core, MasterState, NodeState, master_of, node_of, peer_of, failover_of, card_place, is_failing_over, is_tilted, with_master, with_node, with_failover, with_current, with_card, is_handed, is_planned}
 use Rattle.sentinel_rules.specs.Parts.{Part, quiet, puts, part_if}
-use Rattle.sentinel_rules.specs.Profiles.{is_redis, marked_at, marked, rested_at, rested}
+use Rattle.sentinel_rules.specs.Profiles.{is_redis, marked_at, marked, rested_at, rested, candidate_place}
 use Rattle.sentinel_rules.specs.Votes.{book_of, with_book, mark_for, requested}
-use Rattle.sentinel_rules.specs.News.{at_same_address, at_new_address, card_taken, is_heeded, is_newer, raised_to, adopted, hello_of_known, hello_heeded, hello_read, reported, vote_heard, answer_of, answered, node_pinged, peer_pinged, pinged_at, pinged, node_lost, peer_lost, lost_at, connection_lost, disconnected, with_info, is_master_role, promotion, has_followed, reconfiguration, Wrong, wrong_of, can_be_followed, is_role_overdue, is_address_overdue, anew, correction, is_reconfiguring, judged, info_kept, info_at_node, info_of_node, info_read}
+use Rattle.sentinel_rules.specs.News.{at_same_address, at_new_address, card_taken, is_heeded, is_newer, raised_to, adopted, hello_of_known, hello_heeded, hello_read, reported, vote_heard, answer_of, answered, node_pinged, peer_pinged, pinged_at, pinged, node_lost, peer_lost, lost_at, connection_lost, disconnected, with_info, promotion, has_followed, reconfiguration, Wrong, wrong_of, can_be_followed, is_role_overdue, is_address_overdue, anew, correction, is_reconfiguring, judged, info_kept, info_at_node, info_of_node, info_read, closing_frames, with_frames, refusal_at, refusal_heard, peer_greeted, greeted_at, greeted, node_announced, announced_at}
 use Rattle.sentinel_rules.specs.Facts.{IsSound}
 use Rattle.sentinel_rules.specs.Steps.{campaign_in, IsOpenOf}
 use Rattle.sentinel_rules.proofs.Framing.{master_same, master_other}
-use Rattle.sentinel_rules.proofs.SoundNews.{parts3, reported_sound}
+use Rattle.sentinel_rules.proofs.SoundNews.{parts3, reported_sound, greeted_at_sound, announced_at_sound}
 use Rattle.sentinel_rules.proofs.StepsTo.{StepsTo, steps_then, steps_more, kept_as, steps_one, parts_at, IsTwin, twin_steps, twin_master, twin_state, same_steps, raise_steps, voted_core, cast_steps, kept_back}
 
 -- Ifs
@@ -236,10 +236,18 @@ known_steps plan m now text hello core spelled names s =
     stopped_lt : m < length (stopped_core high m hello.card).masters
     stopped_lt = subst (λ (n : ℕ). m < n) (sym (length-set core.masters m (record (master_of core m) { failover = ended (failover_of core m) }))) lt
 
+greeted_at_steps : (plan : Plan) (event : Event) (now : ℕ) (at : Option ℕ) (core : Core) → StepsTo plan event 0 core (greeted_at now at core)
+greeted_at_steps plan event now None core = stay_steps plan event 0 core
+greeted_at_steps plan event now (Some place) core =
+    same_steps plan event 0 core (record core { peers = slice_set core.peers place (peer_greeted now (peer_of core place)) }) refl refl refl
+
 heeded_steps : (plan : Plan) (now : ℕ) (m : Option ℕ) (text : List ℕ) (hello : Hello) (core : Core) → SpellsHello text hello → master_named (roster_of plan) hello.master ≡ m →
     IsSound plan core → StepsTo plan (HelloRead text) 2 core (hello_heeded plan now m hello core).core
 heeded_steps plan now None text hello core spelled names s = stay_steps plan (HelloRead text) 2 core
-heeded_steps plan now (Some m) text hello core spelled names s = known_steps plan m now text hello core spelled names s
+heeded_steps plan now (Some m) text hello core spelled names s =
+    steps_then plan (HelloRead text) 0 2 core (greeted plan now hello core) (hello_of_known plan m now hello (greeted plan now hello core)).core
+    (greeted_at_steps plan (HelloRead text) now (candidate_place plan (Some hello.id)) core)
+    (known_steps plan m now text hello (greeted plan now hello core) spelled names (greeted_at_sound plan now (candidate_place plan (Some hello.id)) core s))
 
 read_steps : (plan : Plan) (now : ℕ) (text : List ℕ) (read : Result Hello TextFault) (core : Core) → hello_of text ≡ read → IsSound plan core →
     StepsTo plan (HelloRead text) 2 core (hello_read plan now read core).core
@@ -412,6 +420,23 @@ pub disconnected_steps : (plan : Plan) (event : Event) (node : NodeName) (core :
 disconnected_steps plan event node core s =
     steps_cond plan event 0 core (is_redis plan.profile) (connection_lost plan node core) core (λ h. lost_steps plan event node core s) (λ h. stay_steps plan event 0 core)
 
+refusal_at_steps : (plan : Plan) (event : Event) (at : Option NodePlace) (core : Core) → ((a : NodePlace) → at ≡ Some a → a.master < master_count plan) → IsSound plan core →
+    StepsTo plan event 0 core (refusal_at plan at core)
+refusal_at_steps plan event None core f s = stay_steps plan event 0 core
+refusal_at_steps plan event (Some at) core f s =
+    let lt : at.master < length core.masters = within_core plan core at.master s (f at refl) in
+    steps_cond plan event 0 core (is_handed core at.master && (at.place == card_place plan core at.master))
+    (with_master core at.master (record (master_of core at.master) { refused = true })) core
+    (λ h. twin_steps plan event 0 at.master core (with_master core at.master (record (master_of core at.master) { refused = true })) lt
+    (twin_master core at.master (record (master_of core at.master) { refused = true }) lt refl))
+    (λ h. stay_steps plan event 0 core)
+
+-- nor is that a master refuses to hand over
+pub refusal_steps : (plan : Plan) (event : Event) (node : NodeName) (core : Core) → IsSound plan core → StepsTo plan event 0 core (refusal_heard plan node core)
+refusal_steps plan event node core s =
+    steps_cond plan event 0 core (is_redis plan.profile) (refusal_at plan (node_named plan node) core) core
+    (λ h. refusal_at_steps plan event (node_named plan node) core (λ at e. named_within plan node at e) s) (λ h. stay_steps plan event 0 core)
+
 pub pinged_steps : (plan : Plan) (event : Event) (node : NodeName) (now : ℕ) (reply : PingReply) (core : Core) → IsSound plan core →
     StepsTo plan event 0 core (pinged plan node now reply core)
 pinged_steps plan event (SentinelAt place) now reply core s =
@@ -430,8 +455,10 @@ promotion_steps : (plan : Plan) (event : Event) (m k now : ℕ) (info : Info) (s
     (failover_of core m).state ≡ state → StepsTo plan event 1 core (promotion plan m k now info state core).core
 promotion_steps plan event m k now info (WaitPromotion epoch choice former) core lt inside e =
     steps_if plan event 1 ((k == choice.place) && is_master_role info.role) core
-    (λ c. card_taken plan m now (record { epoch = epoch; addr = choice.addr })
+    (λ c. with_frames
+    (card_taken plan m now (record { epoch = epoch; addr = choice.addr })
     (with_failover c m (promoted (WaitPromotion epoch choice former) (record (failover_of c m) { moment = now }))))
+    (closing_frames plan m k (card_place plan c m) (is_planned c m)))
     (λ h. steps_then plan event 1 0 core (with_card told m card) (card_taken plan m now card told).core
     (steps_then plan event 0 1 core told (with_card told m card)
     (twin_steps plan event 0 m core told lt (twin_state m core told (campaign_in f.state) (campaign_in (failover_of core m).state)
@@ -510,7 +537,18 @@ of_node_steps : (plan : Plan) (event : Event) (now : ℕ) (at : Option NodePlace
 of_node_steps plan event now None info core f s = stay_steps plan event 1 core
 of_node_steps plan event now (Some at) info core f s = at_node_steps plan event at.master at.place now info core (within_core plan core at.master s (f at refl)) (f at refl)
 
-pub info_steps : (plan : Plan) (event : Event) (node : NodeName) (now : ℕ) (read : Result Info TextFault) (core : Core) → IsSound plan core →
-    StepsTo plan event 1 core (info_read plan node now read core).core
-info_steps plan event node now (Err fault) core s = stay_steps plan event 1 core
-info_steps plan event node now (Ok info) core s = of_node_steps plan event now (node_named plan node) info core (λ at e. named_within plan node at e) s
+announced_at_steps : (plan : Plan) (event : Event) (announced : Bool) (at : Option NodePlace) (core : Core) →
+    ((a : NodePlace) → at ≡ Some a → a.master < master_count plan) → IsSound plan core → StepsTo plan event 0 core (announced_at announced at core)
+announced_at_steps plan event announced None core f s = stay_steps plan event 0 core
+announced_at_steps plan event announced (Some at) core f s =
+    node_steps plan event at.master at.place (node_announced announced (node_of core at.master at.place)) core (within_core plan core at.master s (f at refl))
+
+pub info_steps : (plan : Plan) (event : Event) (node : NodeName) (now : ℕ) (read : Result Info TextFault) (announced : Bool) (core : Core) → IsSound plan core →
+    StepsTo plan event 1 core (info_read plan node now read announced core).core
+info_steps plan event node now (Err fault) announced core s = stay_steps plan event 1 core
+info_steps plan event node now (Ok info) announced core s =
+    let told = announced_at announced (node_named plan node) core in
+    steps_then plan event 0 1 core told (info_of_node plan now (node_named plan node) info told).core
+    (announced_at_steps plan event announced (node_named plan node) core (λ at e. named_within plan node at e) s)
+    (of_node_steps plan event now (node_named plan node) info told (λ at e. named_within plan node at e)
+    (announced_at_sound plan announced (node_named plan node) core s))

@@ -23,11 +23,12 @@ use Rattle.failover_states.specs.Failovers.{Failover}
 use Rattle.failover_states.specs.Known.{Known}
 use Rattle.failover_states.specs.Table.{Turn, turned, turn_in, table, quieted, expiring, vote_of, chosen, started}
 use Rattle.sentinel_rules.specs.Plans.{Plan, roster_of, me, group_size, master_count, nodes_of}
-use Rattle.sentinel_rules.specs.States.{Core, MasterState, master_of, failover_of, is_failing_over, is_tilted, is_master_down, is_odown_at, with_master, with_failover, with_current}
+use Rattle.sentinel_rules.specs.States.{Core, MasterState, master_of, failover_of, is_failing_over, is_tilted, is_master_down, is_odown_at, with_master, with_failover, with_current, is_wished}
 use Rattle.sentinel_rules.specs.Parts.{Part, quiet, puts, then_part, part_if, changed_from, frames_from}
-use Rattle.sentinel_rules.specs.Profiles.{election_ms, rest_of, rested}
+use Rattle.sentinel_rules.specs.Profiles.{is_asking, election_ms, rest_of, rested}
 use Rattle.sentinel_rules.specs.Votes.{book_of, mark_for}
-use Rattle.sentinel_rules.specs.Ticks.{peer_after, peers_part, sending_of, node_after, nodes_part, campaign_epoch, known_of, turn_of, with_vote, with_win, row_part, after_start, is_start_due, start_turn, starts_now, start_part, is_ask_due, ask_frames, ask_candidate, ask_part, odown_part, failover_part, judging_part, master_part, with_reading, tick}
+use Rattle.sentinel_rules.specs.Contacts.{since_after}
+use Rattle.sentinel_rules.specs.Ticks.{peer_after, peers_part, sending_of, node_after, nodes_part, campaign_epoch, known_of, turn_of, with_vote, with_win, row_part, after_start, is_start_due, start_turn, starts_now, start_part, is_ask_due, ask_frames, ask_candidate, ask_part, odown_part, failover_part, judging_part, master_part, with_reading, tick, planned_start, with_plan, planned_if}
 use Rattle.sentinel_rules.specs.Facts.{IsSoundPlan, IsSound, IsAwaited}
 use Rattle.sentinel_rules.specs.Steps.{campaign_in, IsOpenOf, IsPartsOf}
 use Rattle.sentinel_rules.proofs.KeptParts.{own_entry}
@@ -36,7 +37,7 @@ use Rattle.ballot_law.specs.declared.cards.KeptMaster.{KeptMaster}
 use Rattle.sentinel_rules.proofs.Framing.{sound_alike, awaited_still}
 use Rattle.sentinel_rules.proofs.Turns.{Best, turn_by, turn_vote}
 use Rattle.sentinel_rules.proofs.Choices.{same_addr-same, best_awaited}
-use Rattle.sentinel_rules.proofs.SoundTicks.{keeps_if, row_keeps, busy_is, idle_is, as_idle, start_within, start_keeps, peers_keeps, nodes_keeps, odown_keeps}
+use Rattle.sentinel_rules.proofs.SoundTicks.{keeps_if, row_keeps, busy_is, idle_is, as_idle, start_within, start_keeps, peers_keeps, nodes_keeps, odown_keeps, start_sound}
 use Rattle.sentinel_rules.proofs.StepsTo.{StepsTo, steps_then, steps_more, kept_as, IsTwin, twin_then, twin_steps, twin_master, twin_state, same_steps, drop_steps, choose_steps, win_steps, open_steps, voted_core, cast_steps}
 use Rattle.sentinel_rules.proofs.StepNews.{stay_steps, steps_if, within_core, mark_twin, rested_twin, rested_count, voted_is}
 
@@ -393,10 +394,22 @@ start_steps plan event m now core s inside idle = subst (λ (x : Failover). Step
           tt,
         )
 
+-- what is kept of a switch that was asked for is nothing to the model
+planned_steps : (plan : Plan) (event : Event) (m now : ℕ) (begins : Bool) (core : Core) → m < length core.masters →
+    StepsTo plan event 0 core (if begins then with_plan m now core else core)
+planned_steps plan event m now true core within =
+    twin_steps plan event 0 m core (with_plan m now core) within
+    (twin_master core m (record (master_of core m) { wish = None; planned = planned_if (is_wished core m now) (epoch_of (failover_of core m).state); refused = false }) within refl)
+planned_steps plan event m now false core within = stay_steps plan event 0 core
+
 starts_steps : (plan : Plan) (event : Event) (m now : ℕ) (core : Core) → IsSound plan core → m < master_count plan → StepsTo plan event 1 core (start_part plan m now core).core
 starts_steps plan event m now core s inside =
-    steps_if plan event 1 (not (is_failing_over core m)) core (λ c. quiet (after_start m (start_turn plan c m now) c))
-    (λ h. start_steps plan event m now core s inside (idle_is (failover_of core m).state h))
+    steps_if plan event 1 (not (is_failing_over core m)) core (λ c. quiet (planned_start m now (start_turn plan c m now) c))
+    (λ h. let idle = idle_is (failover_of core m).state h in
+    let begun : Core = after_start m (start_turn plan core m now) core in
+    steps_then plan event 1 0 core begun (planned_start m now (start_turn plan core m now) core)
+    (start_steps plan event m now core s inside idle)
+    (planned_steps plan event m now (is_some (start_turn plan core m now).row) begun (within_core plan begun m (start_sound plan m now core s idle) inside)))
 
 -- no election yet
 
@@ -410,9 +423,13 @@ won_either false a b core e f = f
 
 start_won : (plan : Plan) (m now : ℕ) (core : Core) → (start_part plan m now core).core.won ≡ core.won
 start_won plan m now core =
-    won_if (not (is_failing_over core m)) core (λ c. quiet (after_start m (start_turn plan c m now) c))
-    (won_either (is_some (start_turn plan core m now).row) (with_current (with_failover core m (start_turn plan core m now).failover) (core.kept.current + 1))
-    (with_failover core m (start_turn plan core m now).failover) core refl refl)
+    won_if (not (is_failing_over core m)) core (λ c. quiet (planned_start m now (start_turn plan c m now) c))
+    (won_either (is_some (start_turn plan core m now).row) (with_plan m now (after_start m (start_turn plan core m now) core))
+    (after_start m (start_turn plan core m now) core) core after after)
+  where
+    after : (after_start m (start_turn plan core m now) core).won ≡ core.won
+    after = won_either (is_some (start_turn plan core m now).row) (with_current (with_failover core m (start_turn plan core m now).failover) (core.kept.current + 1))
+        (with_failover core m (start_turn plan core m now).failover) core refl refl
 
 peers_won : (plan : Plan) (m now : ℕ) (core : Core) → (peers_part plan m now core).core.won ≡ core.won
 peers_won plan zero now core = refl
@@ -431,12 +448,15 @@ nodes_steps plan event m now core lt =
 
 odown_steps : (plan : Plan) (event : Event) (m now : ℕ) (core : Core) → m < length core.masters → StepsTo plan event 0 core (odown_part plan m now core).core
 odown_steps plan event m now core lt =
-    let new : MasterState = record (master_of core m) { odown = is_odown_at plan core m now } in
+    let new : MasterState = record (master_of core m) {
+      odown = is_odown_at plan core m now;
+      odown_since = since_after (is_odown_at plan core m now) now (master_of core m).odown_since;
+    } in
     twin_steps plan event 0 m core (with_master core m new) lt (twin_master core m new lt refl)
 
 ask_steps : (plan : Plan) (event : Event) (m now : ℕ) (started : Bool) (core : Core) → m < length core.masters → StepsTo plan event 0 core (ask_part plan m now started core).core
 ask_steps plan event m now started core lt =
-    steps_if plan event 0 (is_master_down plan core m now && is_ask_due started (master_of core m).ask_sent now) core
+    steps_if plan event 0 (is_asking plan core m now && is_ask_due started (master_of core m).ask_sent now) core
     (λ c. puts (with_master c m (record (master_of c m) { ask_sent = Some now })) (frames_from (ask_frames plan m (ask_candidate plan c m)) 0 c.peers))
     (λ h. twin_steps plan event 0 m core (with_master core m (record (master_of core m) { ask_sent = Some now })) lt
     (twin_master core m (record (master_of core m) { ask_sent = Some now }) lt refl))

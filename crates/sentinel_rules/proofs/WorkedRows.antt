@@ -6,7 +6,7 @@ use Rattle.std.specs.Fmt.{digits}
 use Rattle.std.specs.Str.{is_utf8, chars}
 use Rattle.ballot_law.specs.Words.{hex}
 use Rattle.failover_states.specs.Replicas.{told, is_due, is_next}
-use Rattle.sentinel_rules.specs.Worked.{OneVoteAnEpoch, QuestionsRaiseNothing, NothingOfNobody, VoteAfterARestart, ShortAnswers, AFailover, FailoverGoesOn, ATickInFull, HelloInBytes, VotesOfAnotherEpoch, VoteThatWasNotStored, NoEpochIsLeft, AdoptionEndsAFailover, OnlyNewerIsAdopted, NothingIsJudgedInTilt, AVoteDelaysTheOwnCampaign, ReplicasOneByOne, AFormerMasterFollows, AReplicaOfAnotherFollows, ShownInAFailover, ASwitchForgetsTheStart, ALostCandidateHoldsNobodyBack}
+use Rattle.sentinel_rules.specs.Worked.{OneVoteAnEpoch, QuestionsRaiseNothing, NothingOfNobody, VoteAfterARestart, ShortAnswers, AFailover, FailoverGoesOn, ATickInFull, HelloInBytes, VotesOfAnotherEpoch, VoteThatWasNotStored, NoEpochIsLeft, AdoptionEndsAFailover, OnlyNewerIsAdopted, NothingIsJudgedInTilt, AVoteDelaysTheOwnCampaign, ReplicasOneByOne, AFormerMasterFollows, AReplicaOfAnotherFollows, ShownInAFailover, ASwitchForgetsTheStart, ALostCandidateHoldsNobodyBack, APlannedSwitch, ASwitchAtTheNodes}
 
 -- what is unfolded to compute texts and failovers that are written out
 unfoldable pub on_literals : ⊤
@@ -110,3 +110,11 @@ a_replica_of_another_follows = refl
 pub shown_in_a_failover : ShownInAFailover
 unfolding on_literals
 shown_in_a_failover = record { master = refl; replicas = refl; sentinels = refl; usable = refl }
+
+pub a_planned_switch : APlannedSwitch
+unfolding on_literals
+a_planned_switch = record { begun = refl; done = refl; stays = refl; idle = refl; busy = refl; strict = refl; fresh = refl; lapsed = refl }
+
+pub a_switch_at_the_nodes : ASwitchAtTheNodes
+unfolding on_literals
+a_switch_at_the_nodes = record { redis = refl; strict = refl; chosen = refl }

@@ -1,27 +1,35 @@
 -- The commands of a Sentinel's port, and what they answer.
-use Rattle.std.specs.Prelude.{ℕ, suc, zero, ◌+◌, ◌-◌, Bool, true, false, not, ◌&&◌, nat_le, ◌==◌, Option, Some, None, unwrap_or, List, [], ◌∷◌, map, length, position, codes, if◌then◌else◌}
+use Rattle.std.specs.Prelude.{ℕ, suc, zero, ◌+◌, ◌-◌, Bool, true, false, not, ◌&&◌, ◌||◌, nat_lt, nat_le, ◌==◌, is_some, Option, Some, None, unwrap_or, List, [], ◌∷◌, map, length, position, codes, if◌then◌else◌}
 use Rattle.std.specs.List.{list_any}
 use Rattle.ballot_law.specs.declared.addresses.Addr.{Addr}
 use Rattle.ballot_law.specs.declared.addresses.RunId.{RunId}
 use Rattle.ballot_law.specs.declared.cards.KeptMaster.{KeptMaster}
 use Rattle.ballot_law.specs.declared.cards.Shown.{Shown}
 use Rattle.ballot_law.specs.declared.commands.Command.{Command}
-use Rattle.ballot_law.specs.declared.commands.Command.TheVariants.{Ping, IsMasterDownByAddr, GetMasterAddrByName, Masters, Master, Replicas, Sentinels, MyId, CkQuorum, FlushConfig, Subscribe}
+use Rattle.ballot_law.specs.declared.commands.Command.TheVariants.{Ping, IsMasterDownByAddr, GetMasterAddrByName, Masters, Master, Replicas, Sentinels, MyId, CkQuorum, Failover, FlushConfig, Subscribe}
 use Rattle.ballot_law.specs.declared.messages.Body.{Body}
 use Rattle.ballot_law.specs.declared.messages.Body.TheVariants.{Answer, PingText, AddressAnswer, PortReply}
 use Rattle.ballot_law.specs.Ballots.{card_of}
 use Rattle.ballot_law.specs.Counts.{count_below}
+use Rattle.ballot_law.specs.declared.replies.DataRole.TheVariants.{Master as MasterRole, Replica as ReplicaRole}
+use Rattle.ballot_law.specs.Clocks.{age}
 use Rattle.ballot_law.specs.Orders.{same_addr}
+use Rattle.ballot_law.specs.VotesHeard.{kept_at as kept_vote}
 use Rattle.ballot_law.specs.Rosters.{master_at, master_listing, master_named, need, id_of, no_member}
 use Rattle.resp2.specs.Framing.Frame.{Frame, spelling}
+use Rattle.resp2.specs.declared.command.CommandFault.TheVariants.{UnknownCommand}
+use Rattle.replica_choice.specs.declared.candidates.Candidate.{Candidate}
 use Rattle.port_answers.specs.declared.rows.MasterRow.{MasterRow}
 use Rattle.port_answers.specs.declared.rows.ReplicaRow.{ReplicaRow}
 use Rattle.port_answers.specs.declared.rows.SentinelRow.{SentinelRow}
-use Rattle.port_answers.specs.Answers.{master_frame, masters_frame, replicas_frame, sentinels_frame, no_such_master, ok_line, quorum_reached, no_quorum, id_frame, subscribed}
+use Rattle.port_answers.specs.Answers.{no_such_master, ok_line, in_progress, in_tilt, no_good_replica, id_frame, subscribed, command_fault}
 use Rattle.sentinel_rules.specs.declared.assumed.TheConstants.{ASSUMED_INFO}
 use Rattle.sentinel_rules.specs.Plans.{Plan, roster_of, me, group_size, master_count, settings_at, nodes_of, addr_at}
-use Rattle.sentinel_rules.specs.States.{Core, node_of, peer_of, card_place, is_failing_over, is_tilted, is_node_down, is_master_down, is_peer_down, is_odown_at}
+use Rattle.sentinel_rules.specs.States.{Core, master_of, node_of, peer_of, with_master, card_place, is_failing_over, is_tilted, is_wished, is_node_down, is_master_down, is_peer_down, is_odown_at, failover_of, node_down_since, peer_down_since}
 use Rattle.sentinel_rules.specs.Parts.{shown_of}
+use Rattle.sentinel_rules.specs.Profiles.{by_profile, down_for}
+use Rattle.sentinel_rules.specs.Rows.{contact_row, said_row, link_row, stage_of, heard_leader, heard_epoch, is_left_out, places_told, master_frame_by, masters_frame_by, replicas_frame_by, sentinels_frame_by, quorum_reached_by, no_quorum_by}
+use Rattle.sentinel_rules.specs.Ticks.{candidates_of, ping_period}
 use Rattle.sentinel_rules.specs.Votes.{book_of, requested}
 
 -- what a command leaves, and its answer
@@ -53,16 +61,17 @@ asked_of plan now addr epoch candidate None core =
 asked_of plan now addr epoch candidate (Some m) core =
     asked_at plan m now addr epoch (is_master_down plan core m now && not (is_tilted core)) candidate core
 
--- Rows
+-- Rows. A Sentinel is sent PINGs by the first master's setting
 
 abbrev pub master_row : Plan → Core → (now m : ℕ) → MasterRow
 master_row plan core now m =
+    let node = node_of core m (card_place plan core m) in
     record {
       name = (master_at (roster_of plan) m).name;
       addr = (card_of core.kept m).addr;
       down = is_master_down plan core m now;
       odown = is_odown_at plan core m now;
-      disconnected = (node_of core m (card_place plan core m)).lost;
+      disconnected = node.lost;
       failing_over = is_failing_over core m;
       replicas = length (nodes_of plan m) - 1;
       others = group_size plan - 1;
@@ -71,42 +80,60 @@ master_row plan core now m =
       timeout = (settings_at plan m).timeout;
       parallel_syncs = (settings_at plan m).parallel_syncs;
       epoch = (card_of core.kept m).epoch;
+      odown_ms = down_for (master_of core m).odown_since now;
+      stage = stage_of (failover_of core m).state;
+      contact =
+          contact_row (ping_period plan m) now node.watch node.contact
+          (node_down_since plan core m now (card_place plan core m));
+      said = said_row now MasterRole node;
     }
 
 -- a replica that sent no INFO shows priority 100 and offset 0
 abbrev pub replica_row : Plan → Core → (now m k : ℕ) → ReplicaRow
 replica_row plan core now m k =
-    let info = unwrap_or (node_of core m k).info ASSUMED_INFO in
+    let node = node_of core m k in
+    let info = unwrap_or node.info ASSUMED_INFO in
     record {
       addr = addr_at plan m k;
       down = is_node_down plan core m now k;
-      disconnected = (node_of core m k).lost;
+      disconnected = node.lost;
       priority = info.priority;
       offset = info.offset;
+      after_ms = (settings_at plan m).after_ms;
+      contact = contact_row (ping_period plan m) now node.watch node.contact (node_down_since plan core m now k);
+      said = said_row now ReplicaRole node;
+      link = link_row node;
     }
 
-abbrev pub sentinel_row : Plan → Core → (now place : ℕ) → SentinelRow
-sentinel_row plan core now place =
+-- as one that watches a master
+abbrev pub sentinel_row : Plan → Core → (now m place : ℕ) → SentinelRow
+sentinel_row plan core now m place =
+    let peer = peer_of core place in
+    let given = kept_vote (master_of core m).heard place in
     record {
       id = id_of (roster_of plan) place;
       addr = (Rattle.std.specs.Prelude.slice_index_or (roster_of plan).sentinels place no_member).addr;
       down = is_peer_down plan core now place;
-      disconnected = (peer_of core place).lost;
+      disconnected = peer.lost;
+      masters = master_count plan;
+      after_ms = (settings_at plan 0).after_ms;
+      hello_ms = age peer.greeted now;
+      leader = heard_leader given;
+      leader_epoch = heard_epoch given;
+      contact = contact_row (ping_period plan 0) now peer.watch peer.contact (peer_down_since plan core now place);
     }
 
 -- the places below a number, but for one
 abbrev pub places_but : (one place count : ℕ) → List ℕ
-places_but one place zero = []
-places_but one place (suc count) =
-    if place == one then places_but one (place + 1) count else place ∷ places_but one (place + 1) count
+places_but one place count = places_told (λ k. k == one) place count
 
--- each node but that of the configuration, by address
+-- each node but that of the configuration and those that aren't told, by address
 abbrev pub replica_rows : Plan → Core → (now m : ℕ) → List ReplicaRow
-replica_rows plan core now m = map (replica_row plan core now m) (places_but (card_place plan core m) 0 (length (nodes_of plan m)))
+replica_rows plan core now m = map (replica_row plan core now m) (places_told (is_left_out plan core m) 0 (length (nodes_of plan m)))
 
 -- each other Sentinel, by run id
-abbrev pub sentinel_rows : Plan → Core → (now : ℕ) → List SentinelRow
-sentinel_rows plan core now = map (sentinel_row plan core now) (places_but plan.place 0 (group_size plan))
+abbrev pub sentinel_rows : Plan → Core → (now m : ℕ) → List SentinelRow
+sentinel_rows plan core now m = map (sentinel_row plan core now m) (places_but plan.place 0 (group_size plan))
 
 -- the numbers of all masters
 abbrev pub numbers_from : (first count : ℕ) → List ℕ
@@ -125,7 +152,10 @@ usable_count plan core now = count_below (is_usable plan core now) (group_size p
 
 abbrev pub quorum_frame : Plan → Core → (now m : ℕ) → Frame
 quorum_frame plan core now m =
-    let usable = usable_count plan core now in if nat_le (need (roster_of plan) m) usable then quorum_reached usable else no_quorum usable
+    let usable = usable_count plan core now in
+    if nat_le (need (roster_of plan) m) usable
+    then quorum_reached_by plan.profile usable
+    else no_quorum_by plan.profile usable (master_at (roster_of plan) m).quorum (group_size plan)
 
 -- Answers
 
@@ -146,20 +176,48 @@ abbrev pub address_of : Core → Option ℕ → Option Shown
 address_of core None = None
 address_of core (Some m) = Some (shown_of core m)
 
+-- SENTINEL FAILOVER
+
+-- a replica that can be promoted, however old what it told is: in a campaign it tells more
+abbrev pub may_take_over : Candidate → Bool
+may_take_over c = (not c.sdown && nat_lt 0 c.priority) && is_some c.last_info
+
+abbrev pub has_heir : Plan → Core → (m now : ℕ) → Bool
+has_heir plan core m now = list_any may_take_over (candidates_of plan core m now)
+
+-- the campaign is to begin at the next tick
+abbrev pub wished : (m now : ℕ) → Core → Core
+wished m now core = with_master core m (record (master_of core m) { wish = Some now })
+
+-- one at a time, and none that could come to nothing from the outset
+abbrev pub switch_at : Plan → (m now : ℕ) → Core → Answered
+switch_at plan m now core =
+    if is_failing_over core m || is_wished core m now then unchanged core (reply core [] in_progress)
+    else (if is_tilted core then unchanged core (reply core [] in_tilt)
+    else (if has_heir plan core m now then record { core = wished m now core; body = reply core [] ok_line }
+    else unchanged core (reply core [] no_good_replica)))
+
+-- strict Sentinels don't know the command
+abbrev pub asked_to_switch : Plan → (now : ℕ) → Option ℕ → Core → Answered
+asked_to_switch plan now None core = unchanged core (reply core [] no_such_master)
+asked_to_switch plan now (Some m) core = switch_at plan m now core
+
 abbrev pub commanded : Plan → (now : ℕ) → Command → Core → Answered
 commanded plan now Ping core = unchanged core (PingText false (codes "PONG"))
 commanded plan now (IsMasterDownByAddr addr epoch candidate) core =
     asked_of plan now addr epoch candidate (master_with_card core.kept.masters addr) core
 commanded plan now (GetMasterAddrByName name) core = unchanged core (AddressAnswer (address_of core (named plan name)))
 commanded plan now Masters core =
-    unchanged core (reply core (all_masters plan) (masters_frame (map (master_row plan core now) (all_masters plan))))
+    unchanged core (reply core (all_masters plan) (masters_frame_by plan.profile (map (master_row plan core now) (all_masters plan))))
 commanded plan now (Master name) core =
-    unchanged core (about core (named plan name) (λ m. reply core (m ∷ []) (master_frame (master_row plan core now m))))
+    unchanged core (about core (named plan name) (λ m. reply core (m ∷ []) (master_frame_by plan.profile (master_row plan core now m))))
 commanded plan now (Replicas name) core =
-    unchanged core (about core (named plan name) (λ m. reply core [] (replicas_frame (replica_rows plan core now m))))
+    unchanged core (about core (named plan name) (λ m. reply core [] (replicas_frame_by plan.profile (replica_rows plan core now m))))
 commanded plan now (Sentinels name) core =
-    unchanged core (about core (named plan name) (λ m. reply core [] (sentinels_frame (sentinel_rows plan core now))))
+    unchanged core (about core (named plan name) (λ m. reply core [] (sentinels_frame_by plan.profile (sentinel_rows plan core now m))))
 commanded plan now MyId core = unchanged core (reply core [] (id_frame (me plan)))
 commanded plan now (CkQuorum name) core = unchanged core (about core (named plan name) (λ m. reply core [] (quorum_frame plan core now m)))
+commanded plan now (Failover name) core =
+    by_profile plan.profile (unchanged core (reply core [] (command_fault UnknownCommand))) (asked_to_switch plan now (named plan name) core)
 commanded plan now FlushConfig core = unchanged core (reply core [] ok_line)
 commanded plan now Subscribe core = unchanged core (reply core [] subscribed)

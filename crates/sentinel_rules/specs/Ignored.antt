@@ -1,7 +1,7 @@
 -- Inputs that a Sentinel takes no notice of.
 use Rattle.std.specs.Prelude.{◌≡◌, ℕ, Bool, true, false, not, ◌&&◌, ◌==◌, nat_lt, is_some, [], Result, Ok, Err, if◌then◌else◌}
 use Rattle.ballot_law.specs.declared.events.Event.{Event}
-use Rattle.ballot_law.specs.declared.events.Event.TheVariants.{Tick, Command as Commanded, Answered as AnswerCame, Pinged, InfoRead, HelloRead, Disconnected, Become, Handed}
+use Rattle.ballot_law.specs.declared.events.Event.TheVariants.{Tick, Command as Commanded, Answered as AnswerCame, Pinged, InfoRead, HelloRead, Disconnected, Refused, Become, Handed}
 use Rattle.ballot_law.specs.declared.messages.NodeName.{NodeName}
 use Rattle.ballot_law.specs.declared.messages.NodeName.TheVariants.{SentinelAt, StoreAt, ClientAt, PortAt}
 use Rattle.ballot_law.specs.declared.replies.Hello.{Hello}
@@ -50,6 +50,7 @@ is_noticed plan (Pinged node reply) = is_peer_or_node plan node
 is_noticed plan (InfoRead node text) = is_info_heeded plan node (info_of text)
 is_noticed plan (HelloRead text) = is_hello_heeded plan (hello_of text)
 is_noticed plan (Disconnected node) = is_redis plan.profile && is_peer_or_node plan node
+is_noticed plan (Refused node) = is_redis plan.profile && is_data_node plan node
 is_noticed plan (Become priority offset link_down) = false
 is_noticed plan (Handed message) = false
 

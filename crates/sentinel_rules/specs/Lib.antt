@@ -1,10 +1,12 @@
 pub mod Plans
+pub mod Contacts
 pub mod States
 pub mod Parts
 pub mod Profiles
 pub mod Votes
 pub mod Ticks
 pub mod News
+pub mod Rows
 pub mod Answers
 pub mod Takes
 pub mod Facts

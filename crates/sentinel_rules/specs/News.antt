@@ -1,13 +1,11 @@
 -- What a Sentinel hears: hellos, answers of other Sentinels, replies to PING, INFO.
-use Rattle.std.specs.Prelude.{ℕ, max, Bool, true, false, not, ◌&&◌, nat_lt, ◌==◌, Option, Some, None, unwrap_or, [], ◌∷◌, map, slice_set, Result, Ok, Err, if◌then◌else◌}
+use Rattle.std.specs.Prelude.{ℕ, max, Bool, true, false, not, ◌&&◌, nat_lt, ◌==◌, Option, Some, None, unwrap_or, List, [], ◌∷◌, ◌++◌, map, slice_set, Result, Ok, Err, if◌then◌else◌}
 use Rattle.std.specs.List.{list_any}
 use Rattle.ballot_law.specs.declared.addresses.Addr.{Addr}
 use Rattle.ballot_law.specs.declared.addresses.RunId.{RunId}
 use Rattle.ballot_law.specs.declared.cards.Card.{Card}
 use Rattle.ballot_law.specs.declared.messages.NodeName.{NodeName}
 use Rattle.ballot_law.specs.declared.messages.NodeName.TheVariants.{SentinelAt, StoreAt, ClientAt, PortAt}
-use Rattle.ballot_law.specs.declared.replies.DataRole.{DataRole}
-use Rattle.ballot_law.specs.declared.replies.DataRole.TheVariants.{Master, Replica}
 use Rattle.ballot_law.specs.declared.replies.Hello.{Hello}
 use Rattle.ballot_law.specs.declared.replies.Info.{Info}
 use Rattle.ballot_law.specs.declared.replies.PingReply.{PingReply}
@@ -26,12 +24,14 @@ use Rattle.failover_states.specs.Calls.{promoted, reconfigured}
 use Rattle.node_texts.specs.declared.faults.TextFault.{TextFault}
 use Rattle.sentinel_rules.specs.declared.periods.TheConstants.{WRONG_ROLE_MS}
 use Rattle.sentinel_rules.specs.declared.profiles.Profile.{Profile}
-use Rattle.sentinel_rules.specs.declared.frames.Frame.TheVariants.{FollowTo, NoteOf}
+use Rattle.sentinel_rules.specs.declared.frames.Frame.{Frame}
+use Rattle.sentinel_rules.specs.declared.frames.Frame.TheVariants.{PromoteTo, FollowTo, NoteOf}
 use Rattle.ballot_law.specs.declared.node_places.NodePlace.{NodePlace}
 use Rattle.sentinel_rules.specs.Plans.{Plan, roster_of, me, group_size, master_count, settings_at, nodes_of, node_name, node_named}
-use Rattle.sentinel_rules.specs.States.{Core, MasterState, NodeState, PeerState, master_of, node_of, peer_of, failover_of, card_place, is_failing_over, is_tilted, is_master_down, with_master, with_node, with_failover, with_current, with_card}
+use Rattle.sentinel_rules.specs.States.{Core, is_master_role, says_master, MasterState, NodeState, PeerState, master_of, node_of, peer_of, failover_of, card_place, is_failing_over, is_tilted, is_planned, is_handed, is_master_down, with_master, with_node, with_failover, with_current, with_card}
 use Rattle.sentinel_rules.specs.Parts.{Part, quiet, puts, part_if, frame_if}
-use Rattle.sentinel_rules.specs.Profiles.{is_redis, start_at_new_address}
+use Rattle.sentinel_rules.specs.Contacts.{contact_replied, role_since_after}
+use Rattle.sentinel_rules.specs.Profiles.{is_redis, start_at_new_address, candidate_place}
 
 -- A configuration is taken
 
@@ -87,9 +87,20 @@ hello_of_known plan m now hello core =
     let raised = raised_to hello.current core in
     part_if (is_newer plan raised m hello.card) raised (adopted plan m now hello.card)
 
+-- when its last hello came is kept for those who ask
+abbrev pub peer_greeted : (now : ℕ) → PeerState → PeerState
+peer_greeted now peer = record peer { greeted = now }
+
+abbrev pub greeted_at : (now : ℕ) → Option ℕ → Core → Core
+greeted_at now None core = core
+greeted_at now (Some place) core = record core { peers = slice_set core.peers place (peer_greeted now (peer_of core place)) }
+
+abbrev pub greeted : Plan → (now : ℕ) → Hello → Core → Core
+greeted plan now hello core = greeted_at now (candidate_place plan (Some hello.id)) core
+
 abbrev pub hello_heeded : Plan → (now : ℕ) → Option ℕ → Hello → Core → Part
 hello_heeded plan now None hello core = quiet core
-hello_heeded plan now (Some m) hello core = hello_of_known plan m now hello core
+hello_heeded plan now (Some m) hello core = hello_of_known plan m now hello (greeted plan now hello core)
 
 abbrev pub hello_read : Plan → (now : ℕ) → Result Hello TextFault → Core → Part
 hello_read plan now (Err fault) core = quiet core
@@ -132,10 +143,12 @@ node_pinged now reply node =
       watch = after_reply now reply node.watch;
       last_ping = if is_valid reply then Some now else node.last_ping;
       lost = false;
+      contact = contact_replied now (is_valid reply) node.contact;
     }
 
 abbrev pub peer_pinged : (now : ℕ) → PingReply → PeerState → PeerState
-peer_pinged now reply peer = record peer { watch = after_reply now reply peer.watch; lost = false }
+peer_pinged now reply peer =
+    record peer { watch = after_reply now reply peer.watch; lost = false; contact = contact_replied now (is_valid reply) peer.contact }
 
 abbrev pub pinged_at : (now : ℕ) → PingReply → Option NodePlace → Core → Core
 pinged_at now reply None core = core
@@ -177,15 +190,40 @@ connection_lost plan (PortAt number) core = core
 abbrev pub disconnected : Plan → (node : NodeName) → Core → Core
 disconnected plan node core = if is_redis plan.profile then connection_lost plan node core else core
 
+-- Masters that refuse to hand over
+
+abbrev pub refusal_at : Plan → Option NodePlace → Core → Core
+refusal_at plan None core = core
+refusal_at plan (Some at) core =
+    if is_handed core at.master && (at.place == card_place plan core at.master)
+    then with_master core at.master (record (master_of core at.master) { refused = true })
+    else core
+
+-- the master that a failover told to hand over answered with an error: the failover ends at the next tick
+abbrev pub refusal_heard : Plan → (node : NodeName) → Core → Core
+refusal_heard plan node core = if is_redis plan.profile then refusal_at plan (node_named plan node) core else core
+
 -- INFO
 
-abbrev pub is_master_role : DataRole → Bool
-is_master_role Master = true
-is_master_role Replica = false
-
--- the INFO, its moment and its role are kept
+-- the INFO, its moment and its role are kept, and for those who ask since when it has said that
 abbrev pub with_info : (now : ℕ) → Info → NodeState → NodeState
-with_info now info node = record node { info = Some info; info_at = Some now; watch = after_role now info.role node.watch; lost = false }
+with_info now info node =
+    record node {
+      info = Some info;
+      info_at = Some now;
+      watch = after_role now info.role node.watch;
+      lost = false;
+      role_since = role_since_after now info.role node.info node.role_since;
+    }
+
+-- after a switch that was asked for the clients of both nodes are sent away, so that they ask for the master anew: these orders change nothing else at the nodes
+abbrev pub closing_frames : Plan → (m heir old : ℕ) → (planned : Bool) → List Frame
+closing_frames plan m heir old planned =
+    frame_if planned (PromoteTo (node_name plan m heir)) ++ frame_if planned (FollowTo (node_name plan m old) m)
+
+-- what is put out behind a part
+abbrev pub with_frames : Part → List Frame → Part
+with_frames part frames = record { core = part.core; frames = part.frames ++ frames }
 
 -- the chosen replica says that it is the master: the campaign's epoch and its address are the configuration
 abbrev pub promotion : Plan → (m k now : ℕ) → Info → FailoverState → Core → Part
@@ -193,8 +231,10 @@ promotion plan m k now info (WaitPromotion epoch choice former) core =
     part_if
     ((k == choice.place) && is_master_role info.role)
     core
-    (λ c. card_taken plan m now (record { epoch = epoch; addr = choice.addr })
+    (λ c. with_frames
+    (card_taken plan m now (record { epoch = epoch; addr = choice.addr })
     (with_failover c m (promoted (WaitPromotion epoch choice former) (record (failover_of c m) { moment = now }))))
+    (closing_frames plan m k (card_place plan c m) (is_planned c m)))
 promotion plan m k now info state core = quiet core
 
 abbrev pub follows : Option Addr → Addr → Bool
@@ -222,10 +262,6 @@ wrong_since is_wrong since now = if is_wrong then Some (unwrap_or since now) els
 abbrev pub is_overdue : Option ℕ → (bound now : ℕ) → Bool
 is_overdue None bound now = false
 is_overdue (Some since) bound now = nat_lt bound (age since now)
-
-abbrev pub says_master : Option Info → Bool
-says_master None = false
-says_master (Some info) = is_master_role info.role
 
 -- the node of the configuration is up, and says that it is a master
 abbrev pub can_be_followed : Plan → Core → (m now : ℕ) → Bool
@@ -295,6 +331,15 @@ abbrev pub info_of_node : Plan → (now : ℕ) → Option NodePlace → Info →
 info_of_node plan now None info core = quiet core
 info_of_node plan now (Some at) info core = info_at_node plan at.master at.place now info core
 
-abbrev pub info_read : Plan → (node : NodeName) → (now : ℕ) → Result Info TextFault → Core → Part
-info_read plan node now (Err fault) core = quiet core
-info_read plan node now (Ok info) core = info_of_node plan now (node_named plan node) info core
+-- whether it may be told to clients is kept for those who ask
+abbrev pub node_announced : Bool → NodeState → NodeState
+node_announced announced node = record node { announced = announced }
+
+abbrev pub announced_at : (announced : Bool) → Option NodePlace → Core → Core
+announced_at announced None core = core
+announced_at announced (Some at) core = with_node core at.master at.place (node_announced announced (node_of core at.master at.place))
+
+abbrev pub info_read : Plan → (node : NodeName) → (now : ℕ) → Result Info TextFault → (announced : Bool) → Core → Part
+info_read plan node now (Err fault) announced core = quiet core
+info_read plan node now (Ok info) announced core =
+    info_of_node plan now (node_named plan node) info (announced_at announced (node_named plan node) core)

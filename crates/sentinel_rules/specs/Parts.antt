@@ -2,7 +2,7 @@
 use Rattle.std.specs.Prelude.{ℕ, ◌+◌, Bool, Some, None, List, [], ◌∷◌, ◌++◌, slice_index_or, if◌then◌else◌}
 use Rattle.ballot_law.specs.declared.cards.Shown.{Shown}
 use Rattle.ballot_law.specs.declared.messages.Body.{Body}
-use Rattle.ballot_law.specs.declared.messages.Body.TheVariants.{Ask, Ping, InfoAsk, Publish, ReplicaOf}
+use Rattle.ballot_law.specs.declared.messages.Body.TheVariants.{Ask, Ping, InfoAsk, Publish, ReplicaOf, HandOver}
 use Rattle.ballot_law.specs.declared.messages.NodeName.{NodeName}
 use Rattle.ballot_law.specs.declared.messages.NodeName.TheVariants.{SentinelAt}
 use Rattle.ballot_law.specs.declared.messages.Output.{Output}
@@ -11,7 +11,7 @@ use Rattle.ballot_law.specs.declared.replies.Hello.{Hello}
 use Rattle.ballot_law.specs.Ballots.{card_of}
 use Rattle.ballot_law.specs.Rosters.{master_at, no_member}
 use Rattle.sentinel_rules.specs.declared.frames.Frame.{Frame}
-use Rattle.sentinel_rules.specs.declared.frames.Frame.TheVariants.{PingTo, InfoTo, HelloTo, AskTo, PromoteTo, FollowTo, NoteOf}
+use Rattle.sentinel_rules.specs.declared.frames.Frame.TheVariants.{PingTo, InfoTo, HelloTo, AskTo, PromoteTo, HandOverTo, FollowTo, NoteOf}
 use Rattle.sentinel_rules.specs.Plans.{Plan, roster_of, me}
 use Rattle.sentinel_rules.specs.States.{Core}
 
@@ -43,6 +43,7 @@ output_of plan core (HelloTo target m) = send plan target (Publish (hello_of_mas
 output_of plan core (AskTo place m candidate) =
     send plan (SentinelAt place) (Ask m (card_of core.kept m).addr core.kept.current candidate)
 output_of plan core (PromoteTo target) = send plan target (ReplicaOf None)
+output_of plan core (HandOverTo target heir) = send plan target (HandOver heir)
 output_of plan core (FollowTo target m) = send plan target (ReplicaOf (Some (card_of core.kept m).addr))
 output_of plan core (NoteOf m old) = Tell (record { master = m; old = old; card = card_of core.kept m })
 

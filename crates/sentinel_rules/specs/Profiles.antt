@@ -1,22 +1,26 @@
 -- Where the profiles differ, rule by rule: the strict rule, and Redis's with its reason. None of them is about who is voted for, what elects, or which
 -- configuration is taken; they say from when on a campaign may begin, for how long a failover waits, and which replicas count.
 use Rattle.std.specs.Prelude.{ℕ, zero, suc, ◌+◌, ◌*◌, ◌/◌, ◌%◌, max, min, Bool, true, false, not, ◌&&◌, ◌||◌, nat_lt, nat_le, ◌==◌, is_some, unwrap_or, Option, Some, None, length, position, if◌then◌else◌}
+use Rattle.ballot_law.specs.declared.addresses.Addr.{Addr}
 use Rattle.ballot_law.specs.declared.addresses.RunId.{RunId}
 use Rattle.ballot_law.specs.declared.replies.Info.{Info}
 use Rattle.ballot_law.specs.Ballots.{kept_of}
 use Rattle.ballot_law.specs.Clocks.{age, clock}
-use Rattle.ballot_law.specs.Orders.{same_id}
+use Rattle.ballot_law.specs.Orders.{same_addr, same_id}
 use Rattle.ballot_law.specs.Watches.{down_since_of}
 use Rattle.failover_states.specs.declared.periods.TheConstants.{ELECTION_MS, SPREAD_MS}
+use Rattle.failover_states.specs.declared.states.FailoverState.{FailoverState}
+use Rattle.failover_states.specs.declared.states.FailoverState.TheVariants.{Idle, WaitStart, SelectReplica, SendPromotion, WaitPromotion, ReconfReplicas, UpdateConfig}
 use Rattle.failover_states.specs.declared.states.Row.{Row}
 use Rattle.failover_states.specs.declared.states.Row.TheVariants.{ElectionTimeout, NoReplica, ChoiceTimeout, PromotionTimeout}
 use Rattle.failover_states.specs.Calls.{choice_of}
 use Rattle.failover_states.specs.Failovers.{Failover}
-use Rattle.sentinel_rules.specs.declared.periods.TheConstants.{HOLD_MS, LINK_MAX_S, QUIET_MS}
+use Rattle.sentinel_rules.specs.declared.assumed.TheConstants.{ASSUMED_INFO}
+use Rattle.sentinel_rules.specs.declared.periods.TheConstants.{HANDED_MS, HOLD_MS, LINK_MAX_S, QUIET_MS, SWITCHED_MS}
 use Rattle.sentinel_rules.specs.declared.profiles.Profile.{Profile}
 use Rattle.sentinel_rules.specs.declared.profiles.Profile.TheVariants.{Strict, Redis}
 use Rattle.sentinel_rules.specs.Plans.{Plan, roster_of, group_size, settings_at, nodes_of}
-use Rattle.sentinel_rules.specs.States.{Core, NodeState, node_of, peer_of, failover_of, with_failover, card_place, is_idle, node_down_since, is_node_down}
+use Rattle.sentinel_rules.specs.States.{Core, NodeState, master_of, node_of, peer_of, failover_of, with_failover, card_place, is_idle, is_handed, says_master, says_replica, node_down_since, is_node_down, is_master_down}
 
 abbrev pub is_redis : Profile → Bool
 is_redis Strict = false
@@ -105,13 +109,17 @@ abbrev pub is_choice_lost : Plan → Core → (m now : ℕ) → Option ℕ → B
 is_choice_lost plan core m now None = false
 is_choice_lost plan core m now (Some k) = is_node_down plan core m now k || is_gone now (node_of core m k)
 
+-- where the master was told to hand over it does so soon or never, and not at all where it refused
+abbrev pub handed_ms : Core → (m timeout : ℕ) → ℕ
+handed_ms core m timeout = if is_handed core m then (if (master_of core m).refused then 0 else min HANDED_MS timeout) else timeout
+
 -- the failover-timeout that the rows of the table go by. By the strict rule, as in Redis, a failover whose choice is lost waits for it until the timeout. In the
 -- other profile it waits no longer, and what is kept as the last start is looked at as above and not by the table
 abbrev pub patience : Plan → Core → (m now : ℕ) → ℕ
 patience plan core m now =
     let f = failover_of core m in
     by_profile plan.profile (settings_at plan m).timeout
-    (if is_idle f.state || is_choice_lost plan core m now (choice_of f.state) then 0 else (settings_at plan m).timeout)
+    (if is_idle f.state || is_choice_lost plan core m now (choice_of f.state) then 0 else handed_ms core m (settings_at plan m).timeout)
 
 -- A failover that has ended
 
@@ -140,6 +148,66 @@ rested plan m now (Some rest) core = with_failover core m (marked (rested_at pla
 
 abbrev pub with_pause : Plan → (m now : ℕ) → Option Row → Core → Core
 with_pause plan m now row core = rested plan m now (rest_of plan.profile row (election_ms plan m)) core
+
+-- A switch that was made at the nodes
+
+-- the place of the node at an address
+abbrev pub place_followed : Plan → (m : ℕ) → Option Addr → Option ℕ
+place_followed plan m None = None
+place_followed plan m (Some addr) = position (same_addr addr) (nodes_of plan m)
+
+-- the place, where it passes
+abbrev pub passing : Option ℕ → (ℕ → Bool) → Option ℕ
+passing None passes = None
+passing (Some k) passes = if passes k then Some k else None
+
+-- another node than the configuration's says that it is a master, and can be reached, and the configuration's has said for a while that it is a replica
+abbrev pub is_taking_over : Plan → Core → (m now k : ℕ) → Bool
+is_taking_over plan core m now k =
+    not (k == card_place plan core m)
+    && (is_down_for (node_of core m (card_place plan core m)).watch.replica_since SWITCHED_MS now
+    && (says_master (node_of core m k).info
+    && not (is_node_down plan core m now k || (node_of core m k).lost)))
+
+-- Where an operator has the master hand over to a replica, by Redis's own FAILOVER, neither is down, and so it is where a master hands over after the Sentinel
+-- that told it to has gone. By the strict rule, as in Redis, the former master is taken
+-- for one that is wrong: it is down after 20 seconds, and any replica may be promoted. In the other profile the node that it follows is to be the master, and a
+-- campaign for it begins at once
+abbrev pub switched_to : Plan → Core → (m now : ℕ) → Option ℕ
+switched_to plan core m now =
+    by_profile plan.profile None
+    (passing (place_followed plan m (unwrap_or (node_of core m (card_place plan core m)).info ASSUMED_INFO).master) (is_taking_over plan core m now))
+
+-- and that was so for this Sentinel's pause too. The pause is for the start alone: it goes by the epoch, which the campaign changes
+abbrev pub is_switch_due : Plan → Core → (m now : ℕ) → Bool
+is_switch_due plan core m now =
+    is_down_for (node_of core m (card_place plan core m)).watch.replica_since (SWITCHED_MS + pause_of plan core) now
+    && is_some (switched_to plan core m now)
+
+-- the node of the configuration is up, and says that it is a replica: nobody but the node that took over may be promoted then
+abbrev pub is_given_away : Plan → Core → (m now : ℕ) → Bool
+is_given_away plan core m now =
+    by_profile plan.profile false (says_replica (node_of core m (card_place plan core m)).info && not (is_master_down plan core m now))
+
+-- the first of two, where there is one
+abbrev pub first_of : Option ℕ → Option ℕ → Option ℕ
+first_of None other = other
+first_of (Some k) other = Some k
+
+-- votes are awaited
+abbrev pub is_electing : FailoverState → Bool
+is_electing Idle = false
+is_electing (WaitStart epoch) = true
+is_electing (SelectReplica epoch) = false
+is_electing (SendPromotion epoch choice) = false
+is_electing (WaitPromotion epoch choice former) = false
+is_electing (ReconfReplicas epoch choice former) = false
+is_electing (UpdateConfig epoch choice) = false
+
+-- The other Sentinels are asked while the master is down. In the other profile they are asked for their votes of a master that is up, too, since a campaign may
+-- follow a switch
+abbrev pub is_asking : Plan → Core → (m now : ℕ) → Bool
+is_asking plan core m now = is_master_down plan core m now || by_profile plan.profile false (is_electing (failover_of core m).state)
 
 -- Which replicas count
 

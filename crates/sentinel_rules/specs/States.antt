@@ -1,25 +1,32 @@
 -- What a Sentinel keeps: what its file is to hold, and what it heard, found and sent since its start.
-use Rattle.std.specs.Prelude.{ℕ, Bool, false, not, is_some, Option, None, List, length, map, replicate, slice_index_or, slice_set, ◌==◌}
+use Rattle.std.specs.Prelude.{ℕ, Bool, true, false, not, ◌&&◌, nat_le, is_some, Option, Some, None, List, length, map, replicate, slice_index_or, slice_set, ◌==◌}
 use Rattle.ballot_law.specs.declared.cards.Card.{Card}
 use Rattle.ballot_law.specs.declared.cards.Kept.{Kept}
 use Rattle.ballot_law.specs.declared.hearings.HeardVote.{HeardVote}
 use Rattle.ballot_law.specs.declared.hearings.DownReport.{DownReport}
 use Rattle.ballot_law.specs.declared.records.Win.{Win}
+use Rattle.ballot_law.specs.declared.replies.DataRole.{DataRole}
+use Rattle.ballot_law.specs.declared.replies.DataRole.TheVariants.{Master, Replica}
 use Rattle.ballot_law.specs.declared.replies.Info.{Info}
 use Rattle.ballot_law.specs.Ballots.{card_of, kept_of}
-use Rattle.ballot_law.specs.Clocks.{clock}
+use Rattle.ballot_law.specs.Clocks.{age, clock}
 use Rattle.ballot_law.specs.Reports.{is_odown_by, kept_at}
 use Rattle.ballot_law.specs.Rosters.{MasterPlan, master_at}
 use Rattle.ballot_law.specs.Tilts.{Turned, opened_clock}
 use Rattle.ballot_law.specs.Watches.{WatchState, opened_at, down_since_of}
 use Rattle.failover_states.specs.declared.states.FailoverState.{FailoverState}
 use Rattle.failover_states.specs.declared.states.FailoverState.TheVariants.{Idle, WaitStart, SelectReplica, SendPromotion, WaitPromotion, ReconfReplicas, UpdateConfig}
+use Rattle.failover_states.specs.Calls.{epoch_of}
 use Rattle.failover_states.specs.Failovers.{Failover}
 use Rattle.failover_states.specs.Replicas.{untouched}
+use Rattle.sentinel_rules.specs.declared.contacts.Contact.{Contact}
+use Rattle.sentinel_rules.specs.Contacts.{new_contact}
+use Rattle.sentinel_rules.specs.declared.periods.TheConstants.{WISH_MS}
 use Rattle.sentinel_rules.specs.Plans.{Plan, roster_of, group_size, settings_at, node_place}
 
 -- of a data node: its watch, when its last valid reply to a PING came, its last INFO and when it came, when it was last sent a
--- PING, an INFO and a hello, since when it has been wrong: as a master, or with another master; and whether of a connection to it was last heard that it was lost
+-- PING, an INFO and a hello, since when it has been wrong: as a master, or with another master; and whether of a connection to it was last heard that it was lost. For those who ask:
+-- its connection, since when it has said that it has its role, and whether it may be told to clients
 pub record NodeState : Type 0 where
   pub watch : WatchState
   pub last_ping : Option ℕ
@@ -31,15 +38,23 @@ pub record NodeState : Type 0 where
   pub wrong_role : Option ℕ
   pub wrong_address : Option ℕ
   pub lost : Bool
+  pub contact : Contact
+  pub role_since : ℕ
+  pub announced : Bool
 
--- of a Sentinel: its watch, when it was last sent a PING, and whether of a connection to it was last heard that it was lost
+-- of a Sentinel: its watch, when it was last sent a PING, and whether of a connection to it was last heard that it was lost. For those who ask:
+-- its connection, and when its last hello came
 pub record PeerState : Type 0 where
   pub watch : WatchState
   pub ping_sent : Option ℕ
   pub lost : Bool
+  pub contact : Contact
+  pub greeted : ℕ
 
 -- of a master: the votes heard, by the voter's place; the failover; what the other Sentinels last said, by place; its nodes; when
--- the other Sentinels were last asked; whether it was objectively down at its last tick
+-- the other Sentinels were last asked; whether it was objectively down at its last tick; when a client last asked that it hand over to a replica, until the
+-- campaign for that begins; the epoch of that campaign, and whether the master refused to hand over in it. For those who ask
+-- since when it has been objectively down
 pub record MasterState : Type 0 where
   pub heard : List (Option HeardVote)
   pub failover : Failover
@@ -47,6 +62,10 @@ pub record MasterState : Type 0 where
   pub nodes : List NodeState
   pub ask_sent : Option ℕ
   pub odown : Bool
+  pub odown_since : Option ℕ
+  pub wish : Option ℕ
+  pub planned : Option ℕ
+  pub refused : Bool
 
 -- kept: what the file is to hold. random: that of the last tick. won: the election that the last input brought
 pub record Core : Type 0 where
@@ -72,10 +91,13 @@ new_node now =
       wrong_role = None;
       wrong_address = None;
       lost = false;
+      contact = new_contact now;
+      role_since = now;
+      announced = true;
     }
 
 abbrev pub new_peer : (now : ℕ) → PeerState
-new_peer now = record { watch = opened_at now; ping_sent = None; lost = false }
+new_peer now = record { watch = opened_at now; ping_sent = None; lost = false; contact = new_contact now; greeted = now }
 
 abbrev pub no_failover : (nodes : ℕ) → Failover
 no_failover nodes = record { state = Idle; entered = 0; last_start = None; replicas = replicate nodes untouched; moment = 0 }
@@ -89,6 +111,10 @@ new_master sentinels nodes now =
       nodes = replicate nodes (new_node now);
       ask_sent = None;
       odown = false;
+      odown_since = None;
+      wish = None;
+      planned = None;
+      refused = false;
     }
 
 -- what the file holds, and nothing else: no vote heard, no report, no failover
@@ -132,7 +158,7 @@ abbrev pub card_place : Plan → Core → (m : ℕ) → ℕ
 card_place plan core m = node_place plan m (card_of core.kept m).addr
 
 abbrev pub is_idle : FailoverState → Bool
-is_idle Idle = Bool.true
+is_idle Idle = true
 is_idle (WaitStart epoch) = false
 is_idle (SelectReplica epoch) = false
 is_idle (SendPromotion epoch choice) = false
@@ -145,6 +171,52 @@ is_failing_over core m = not (is_idle (failover_of core m).state)
 
 abbrev pub is_tilted : Core → Bool
 is_tilted core = is_some core.clock.entered
+
+-- Switches that a client asked for
+
+abbrev pub is_recent : Option ℕ → (now : ℕ) → Bool
+is_recent None now = false
+is_recent (Some at) now = nat_le (age at now) WISH_MS
+
+-- a client asked for a switch a moment ago, and its campaign is to begin
+abbrev pub is_wished : Core → (m now : ℕ) → Bool
+is_wished core m now = is_recent (master_of core m).wish now
+
+abbrev pub is_same_epoch : Option ℕ → Option ℕ → Bool
+is_same_epoch None other = false
+is_same_epoch (Some epoch) None = false
+is_same_epoch (Some epoch) (Some other) = epoch == other
+
+-- the failover that runs is of a switch that a client asked for
+abbrev pub is_planned : Core → (m : ℕ) → Bool
+is_planned core m = is_same_epoch (epoch_of (failover_of core m).state) (master_of core m).planned
+
+abbrev pub is_awaiting : FailoverState → Bool
+is_awaiting Idle = false
+is_awaiting (WaitStart epoch) = false
+is_awaiting (SelectReplica epoch) = false
+is_awaiting (SendPromotion epoch choice) = false
+is_awaiting (WaitPromotion epoch choice former) = true
+is_awaiting (ReconfReplicas epoch choice former) = false
+is_awaiting (UpdateConfig epoch choice) = false
+
+-- and its choice is awaited
+abbrev pub is_handed : Core → (m : ℕ) → Bool
+is_handed core m = is_planned core m && is_awaiting (failover_of core m).state
+
+-- What nodes say of themselves
+
+abbrev pub is_master_role : DataRole → Bool
+is_master_role Master = true
+is_master_role Replica = false
+
+abbrev pub says_master : Option Info → Bool
+says_master None = false
+says_master (Some info) = is_master_role info.role
+
+abbrev pub says_replica : Option Info → Bool
+says_replica None = false
+says_replica (Some info) = not (is_master_role info.role)
 
 -- What is down
 
@@ -161,8 +233,11 @@ abbrev pub is_master_down : Plan → Core → (m now : ℕ) → Bool
 is_master_down plan core m now = is_node_down plan core m now (card_place plan core m)
 
 -- a Sentinel goes by the first master's setting
+abbrev pub peer_down_since : Plan → Core → (now place : ℕ) → Option ℕ
+peer_down_since plan core now place = down_since_of (peer_of core place).watch now (settings_at plan 0).after_ms false
+
 abbrev pub is_peer_down : Plan → Core → (now place : ℕ) → Bool
-is_peer_down plan core now place = is_some (down_since_of (peer_of core place).watch now (settings_at plan 0).after_ms false)
+is_peer_down plan core now place = is_some (peer_down_since plan core now place)
 
 abbrev pub is_odown_at : Plan → Core → (m now : ℕ) → Bool
 is_odown_at plan core m now =

@@ -14,19 +14,20 @@ use Rattle.replica_choice.specs.declared.candidates.Candidate.{Candidate}
 use Rattle.replica_choice.specs.declared.candidates.Limits.{Limits}
 use Rattle.replica_choice.specs.Choices.{choice_of}
 use Rattle.failover_states.specs.declared.states.Row.{Row}
-use Rattle.failover_states.specs.declared.states.Row.TheVariants.{Elected, Promote}
+use Rattle.failover_states.specs.declared.states.Row.TheVariants.{Elected, Promote, PromotionTimeout}
 use Rattle.failover_states.specs.declared.replicas.Replica.{Replica as ReplicaOrder}
 use Rattle.failover_states.specs.Calls.{epoch_of, choice_of as chosen_place}
 use Rattle.failover_states.specs.Known.{Known}
 use Rattle.failover_states.specs.Table.{Turn, turned}
 use Rattle.sentinel_rules.specs.declared.assumed.TheConstants.{ASSUMED_INFO}
-use Rattle.sentinel_rules.specs.declared.periods.TheConstants.{PING_MS, INFO_MS, BUSY_INFO_MS, HELLO_MS, ASK_MS}
+use Rattle.sentinel_rules.specs.declared.periods.TheConstants.{PING_MS, INFO_MS, BUSY_INFO_MS, HEIR_INFO_MS, HELLO_MS, ASK_MS}
 use Rattle.sentinel_rules.specs.declared.frames.Frame.{Frame}
-use Rattle.sentinel_rules.specs.declared.frames.Frame.TheVariants.{PingTo, InfoTo, HelloTo, AskTo, PromoteTo, FollowTo}
+use Rattle.sentinel_rules.specs.declared.frames.Frame.TheVariants.{PingTo, InfoTo, HelloTo, AskTo, PromoteTo, HandOverTo, FollowTo}
+use Rattle.sentinel_rules.specs.Contacts.{contact_asked, since_after}
 use Rattle.sentinel_rules.specs.Plans.{Plan, roster_of, me, master_count, settings_at, nodes_of, addr_at, node_name}
-use Rattle.sentinel_rules.specs.States.{Core, NodeState, PeerState, master_of, node_of, failover_of, with_master, with_failover, with_current, card_place, is_failing_over, is_tilted, is_node_down, is_master_down, is_odown_at}
+use Rattle.sentinel_rules.specs.States.{Core, NodeState, PeerState, master_of, node_of, failover_of, with_master, with_failover, with_current, card_place, is_failing_over, is_tilted, is_wished, is_planned, is_handed, is_node_down, is_master_down, is_odown_at}
 use Rattle.sentinel_rules.specs.Parts.{Part, quiet, puts, then_part, part_if, frame_if, changed_from, frames_from}
-use Rattle.sentinel_rules.specs.Profiles.{may_begin, patience, with_pause, master_down_ms}
+use Rattle.sentinel_rules.specs.Profiles.{may_begin, patience, with_pause, switched_to, is_switch_due, is_given_away, first_of, is_asking, master_down_ms}
 use Rattle.sentinel_rules.specs.Votes.{book_of, with_book, mark_for}
 
 -- What is due
@@ -49,7 +50,11 @@ abbrev pub is_peer_due : Plan → (now place : ℕ) → PeerState → Bool
 is_peer_due plan now place peer = not (place == plan.place) && is_due peer.ping_sent now (ping_period plan 0)
 
 abbrev pub peer_after : Plan → (now place : ℕ) → PeerState → PeerState
-peer_after plan now place peer = record peer { ping_sent = sent_at (is_peer_due plan now place peer) now peer.ping_sent }
+peer_after plan now place peer =
+    record peer {
+      ping_sent = sent_at (is_peer_due plan now place peer) now peer.ping_sent;
+      contact = contact_asked (is_peer_due plan now place peer) now peer.contact;
+    }
 
 abbrev pub peer_frames : Plan → (now place : ℕ) → PeerState → List Frame
 peer_frames plan now place peer = frame_if (is_peer_due plan now place peer) (PingTo (SentinelAt place))
@@ -64,17 +69,27 @@ abbrev pub had_link_down : Option Info → Bool
 had_link_down None = false
 had_link_down (Some info) = nat_lt 0 info.link_down_s
 
--- INFO each 10 seconds; each second to a replica whose master is down or fails over, or whose link was down
-abbrev pub info_period : (is_card is_busy : Bool) → NodeState → ℕ
-info_period is_card is_busy node = if not is_card && (is_busy || had_link_down node.info) then BUSY_INFO_MS else INFO_MS
+-- INFO each 10 seconds; each second to a replica whose master is down or fails over, or whose link was down; ten times a second to the one to which the master
+-- hands over
+abbrev pub info_period : (is_heir is_card is_busy : Bool) → NodeState → ℕ
+info_period is_heir is_card is_busy node =
+    if is_heir then HEIR_INFO_MS else (if not is_card && (is_busy || had_link_down node.info) then BUSY_INFO_MS else INFO_MS)
 
--- what the sending to a master's nodes goes by: the reading, the period of PING, the place of the configuration's node, and
--- whether the master was down at its last tick or fails over
+-- what the sending to a master's nodes goes by: the reading, the period of PING, the place of the configuration's node, whether the master was down at its last
+-- tick or fails over, and the place of the replica to which it was told to hand over
 pub record Sending : Type 0 where
   pub now : ℕ
   pub ping_ms : ℕ
   pub card_place : ℕ
   pub is_busy : Bool
+  pub heir : Option ℕ
+
+abbrev pub is_at : Option ℕ → (k : ℕ) → Bool
+is_at None k = false
+is_at (Some place) k = k == place
+
+abbrev pub heir_of : Core → (m : ℕ) → Option ℕ
+heir_of core m = if is_handed core m then chosen_place (failover_of core m).state else None
 
 abbrev pub sending_of : Plan → Core → (m now : ℕ) → Sending
 sending_of plan core m now =
@@ -83,13 +98,14 @@ sending_of plan core m now =
       ping_ms = ping_period plan m;
       card_place = card_place plan core m;
       is_busy = (master_of core m).odown || is_failing_over core m;
+      heir = heir_of core m;
     }
 
 abbrev pub is_ping_due : Sending → NodeState → Bool
 is_ping_due s node = is_due node.ping_sent s.now s.ping_ms
 
 abbrev pub is_info_due : Sending → (k : ℕ) → NodeState → Bool
-is_info_due s k node = is_due node.info_sent s.now (info_period (k == s.card_place) s.is_busy node)
+is_info_due s k node = is_due node.info_sent s.now (info_period (is_at s.heir k) (k == s.card_place) s.is_busy node)
 
 abbrev pub is_hello_due : Sending → NodeState → Bool
 is_hello_due s node = is_due node.hello_sent s.now HELLO_MS
@@ -100,6 +116,7 @@ node_after s k node =
       ping_sent = sent_at (is_ping_due s node) s.now node.ping_sent;
       info_sent = sent_at (is_info_due s k node) s.now node.info_sent;
       hello_sent = sent_at (is_hello_due s node) s.now node.hello_sent;
+      contact = contact_asked (is_ping_due s node) s.now node.contact;
     }
 
 abbrev pub node_frames : Plan → (m : ℕ) → Sending → (k : ℕ) → NodeState → List Frame
@@ -149,10 +166,14 @@ limits_of plan core m now =
       master_down_ms = master_down_ms plan core m now;
     }
 
--- the best replica, by its place and its address
+-- the best replica, by its place and its address; after a switch that was made at the nodes it is the node that took over
+abbrev pub best_place : Plan → Core → (m now : ℕ) → Option ℕ
+best_place plan core m now =
+    first_of (switched_to plan core m now)
+    (if is_given_away plan core m now then None else choice_of (candidates_of plan core m now) now (limits_of plan core m now))
+
 abbrev pub best_of : Plan → Core → (m now : ℕ) → Option (ℕ × Addr)
-best_of plan core m now =
-    option_map (λ k. (k, addr_at plan m k)) (choice_of (candidates_of plan core m now) now (limits_of plan core m now))
+best_of plan core m now = option_map (λ k. (k, addr_at plan m k)) (best_place plan core m now)
 
 -- the epoch of the campaign; 0 where no failover runs
 abbrev pub campaign_epoch : Core → (m : ℕ) → ℕ
@@ -200,10 +221,20 @@ abbrev pub with_win : (m epoch : ℕ) → Option Row → Core → Core
 with_win m epoch (Some Elected) core = record core { won = Some (record { master = m; epoch = epoch }) }
 with_win m epoch _ core = core
 
--- the choice is told that it is the master
-abbrev pub promote_frames : Plan → (m : ℕ) → Option Row → (choice : Option ℕ) → List Frame
-promote_frames plan m (Some Promote) (Some k) = PromoteTo (node_name plan m k) ∷ []
-promote_frames plan m row choice = []
+-- in a switch that was asked for the master is told to hand over to the choice, where it is up
+abbrev pub hands_over : Plan → Core → (m now : ℕ) → Bool
+hands_over plan core m now = is_planned core m && not (is_master_down plan core m now)
+
+-- else the choice is told that it is the master
+abbrev pub order_to : Plan → Core → (m k : ℕ) → (hands_over : Bool) → Frame
+order_to plan core m k hands_over =
+    if hands_over then HandOverTo (node_name plan m (card_place plan core m)) (Some (record { node = node_name plan m k; addr = addr_at plan m k })) else PromoteTo (node_name plan m k)
+
+-- and where a master that was to hand over didn't in time, it is told to stay
+abbrev pub promote_frames : Plan → Core → (m : ℕ) → (planned hands_over : Bool) → Option Row → (choice : Option ℕ) → List Frame
+promote_frames plan core m planned hands_over (Some Promote) (Some k) = order_to plan core m k hands_over ∷ []
+promote_frames plan core m planned hands_over (Some PromotionTimeout) choice = frame_if planned (HandOverTo (node_name plan m (card_place plan core m)) None)
+promote_frames plan core m planned hands_over row choice = []
 
 -- those that the row orders to follow the new master, by address
 abbrev pub order_frames : Plan → (m k : ℕ) → ReplicaOrder → List Frame
@@ -216,7 +247,7 @@ row_part plan m now core =
     let epoch = campaign_epoch core m in
     puts
     (with_pause plan m now turn.row (with_win m epoch turn.row (with_vote plan m now epoch turn.vote (with_failover core m turn.failover))))
-    (promote_frames plan m turn.row (chosen_place turn.failover.state)
+    (promote_frames plan core m (is_planned core m) (hands_over plan core m now) turn.row (chosen_place turn.failover.state)
     ++ frames_from (order_frames plan m) 0 turn.failover.replicas)
 
 -- where no failover runs one may start: its campaign opens the epoch after the current one
@@ -224,9 +255,27 @@ abbrev pub after_start : (m : ℕ) → Turn → Core → Core
 after_start m turn core =
     let after = with_failover core m turn.failover in if is_some turn.row then with_current after (next_epoch (book_of core m)) else after
 
--- the master was objectively down when that was last computed, and the own campaign may begin
+-- the master was objectively down when that was last computed, or a switch was made at the nodes, and the own campaign may begin; or a client asked for a switch,
+-- which nothing holds back
 abbrev pub is_start_due : Plan → Core → (m now : ℕ) → Bool
-is_start_due plan core m now = (master_of core m).odown && may_begin plan core m now
+is_start_due plan core m now =
+    is_wished core m now || (((master_of core m).odown || is_switch_due plan core m now) && may_begin plan core m now)
+
+-- a campaign that began is that of the switch that was asked for, if one was
+abbrev pub planned_if : (wished : Bool) → (epoch : Option ℕ) → Option ℕ
+planned_if true epoch = epoch
+planned_if false epoch = None
+
+abbrev pub with_plan : (m now : ℕ) → Core → Core
+with_plan m now core =
+    with_master core m (record (master_of core m) {
+      wish = None;
+      planned = planned_if (is_wished core m now) (epoch_of (failover_of core m).state);
+      refused = false;
+    })
+
+abbrev pub planned_start : (m now : ℕ) → Turn → Core → Core
+planned_start m now turn core = if is_some turn.row then with_plan m now (after_start m turn core) else after_start m turn core
 
 abbrev pub start_turn : Plan → Core → (m now : ℕ) → Turn
 start_turn plan core m now = turn_of plan core m now (is_start_due plan core m now)
@@ -236,7 +285,7 @@ starts_now plan core m now = not (is_failing_over core m) && is_some (start_turn
 
 abbrev pub start_part : Plan → (m now : ℕ) → Core → Part
 start_part plan m now core =
-    part_if (not (is_failing_over core m)) core (λ c. quiet (after_start m (start_turn plan c m now) c))
+    part_if (not (is_failing_over core m)) core (λ c. quiet (planned_start m now (start_turn plan c m now) c))
 
 -- The questions to the other Sentinels
 
@@ -255,7 +304,7 @@ ask_frames plan m candidate place peer = frame_if (not (place == plan.place)) (A
 abbrev pub ask_part : Plan → (m now : ℕ) → (started : Bool) → Core → Part
 ask_part plan m now started core =
     part_if
-    (is_master_down plan core m now && is_ask_due started (master_of core m).ask_sent now)
+    (is_asking plan core m now && is_ask_due started (master_of core m).ask_sent now)
     core
     (λ c. puts
     (with_master c m (record (master_of c m) { ask_sent = Some now }))
@@ -264,7 +313,12 @@ ask_part plan m now started core =
 -- The tick
 
 abbrev pub odown_part : Plan → (m now : ℕ) → Core → Part
-odown_part plan m now core = quiet (with_master core m (record (master_of core m) { odown = is_odown_at plan core m now }))
+odown_part plan m now core =
+    quiet
+    (with_master core m (record (master_of core m) {
+      odown = is_odown_at plan core m now;
+      odown_since = since_after (is_odown_at plan core m now) now (master_of core m).odown_since;
+    }))
 
 -- a start where one is due, a row where a failover runs, the questions
 abbrev pub failover_part : Plan → (m now : ℕ) → Core → Part

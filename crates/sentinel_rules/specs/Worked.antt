@@ -6,11 +6,11 @@ use Rattle.ballot_law.specs.declared.cards.Card.{Card}
 use Rattle.ballot_law.specs.declared.cards.Kept.{Kept}
 use Rattle.ballot_law.specs.declared.cards.TheConstants.{MAX_EPOCH}
 use Rattle.ballot_law.specs.declared.commands.Command.{Command}
-use Rattle.ballot_law.specs.declared.commands.Command.TheVariants.{Ping as PingCommand, IsMasterDownByAddr, GetMasterAddrByName, MyId, CkQuorum, FlushConfig}
+use Rattle.ballot_law.specs.declared.commands.Command.TheVariants.{Ping as PingCommand, IsMasterDownByAddr, GetMasterAddrByName, MyId, CkQuorum, Failover as FailoverCommand, FlushConfig}
 use Rattle.ballot_law.specs.declared.events.Event.{Event}
-use Rattle.ballot_law.specs.declared.events.Event.TheVariants.{Tick, Command as Commanded, Answered, Pinged, InfoRead, HelloRead}
+use Rattle.ballot_law.specs.declared.events.Event.TheVariants.{Tick, Command as Commanded, Answered, Pinged, InfoRead, HelloRead, Refused}
 use Rattle.ballot_law.specs.declared.messages.Body.{Body}
-use Rattle.ballot_law.specs.declared.messages.Body.TheVariants.{Ask, Answer, Ping, PingText, InfoAsk, Publish, ReplicaOf, AddressAnswer, PortReply}
+use Rattle.ballot_law.specs.declared.messages.Body.TheVariants.{Ask, Answer, Ping, PingText, InfoAsk, Publish, ReplicaOf, HandOver, AddressAnswer, PortReply}
 use Rattle.ballot_law.specs.declared.messages.NodeName.{NodeName}
 use Rattle.ballot_law.specs.declared.messages.NodeName.TheVariants.{SentinelAt, StoreAt, PortAt}
 use Rattle.ballot_law.specs.declared.messages.Output.{Output}
@@ -18,6 +18,7 @@ use Rattle.ballot_law.specs.declared.messages.Output.TheVariants.{Send, Tell}
 use Rattle.ballot_law.specs.declared.replies.Hello.{Hello}
 use Rattle.ballot_law.specs.declared.replies.PingReply.TheVariants.{Pong}
 use Rattle.ballot_law.specs.declared.rosters.Member.{Member}
+use Rattle.ballot_law.specs.declared.replies.DataRole.TheVariants.{Master, Replica}
 use Rattle.ballot_law.specs.Hellos.{hello_text}
 use Rattle.ballot_law.specs.Rosters.{need}
 use Rattle.ballot_law.specs.VotesHeard.{own_votes}
@@ -26,11 +27,14 @@ use Rattle.failover_states.specs.declared.states.FailoverState.{FailoverState}
 use Rattle.failover_states.specs.declared.states.FailoverState.TheVariants.{Idle, WaitStart, SelectReplica, SendPromotion, WaitPromotion, ReconfReplicas, UpdateConfig}
 use Rattle.node_texts.specs.declared.faults.TextFault.TheVariants.{FieldCount, EpochTooLarge}
 use Rattle.node_texts.specs.Hellos.{hello_of}
+use Rattle.port_answers.specs.declared.known_rows.FailoverStage.TheVariants.{WaitStart as StageWaitStart}
+use Rattle.port_answers.specs.declared.rows.ReplicaRow.{ReplicaRow}
+use Rattle.port_answers.specs.declared.rows.SentinelRow.{SentinelRow}
 use Rattle.sentinel_conf.specs.declared.settings.Settings.{Settings}
 use Rattle.sentinel_conf.specs.declared.settings.TheConstants.{DEFAULT_SETTINGS}
 use Rattle.sentinel_rules.specs.declared.profiles.Profile.TheVariants.{Strict, Redis}
 use Rattle.sentinel_rules.specs.Plans.{Plan, roster_of}
-use Rattle.sentinel_rules.specs.States.{Core, opened, master_of, failover_of}
+use Rattle.sentinel_rules.specs.States.{Core, opened, master_of, failover_of, is_wished}
 use Rattle.sentinel_rules.specs.Votes.{book_of}
 use Rattle.sentinel_rules.specs.Ticks.{count_of}
 use Rattle.sentinel_rules.specs.Answers.{master_row, replica_rows, sentinel_rows, usable_count}
@@ -534,6 +538,103 @@ ALostCandidateHoldsNobodyBack =
     ∷ (9000, asks 2 None)
     ∷ []
 
+-- Switches that a client asks for
+
+abbrev pub switch_plan : Plan
+switch_plan = of_redis (group_plan (kept_at_epoch 0))
+
+abbrev pub switch_command : (now : ℕ) → ℕ × Event
+switch_command now = command_at now (FailoverCommand (Some mymaster))
+
+-- all nodes answer, and a client asks
+abbrev pub until_asked : List (ℕ × Event)
+until_asked =
+    tick_at 1000
+    ∷ pong_at 1100 0
+    ∷ pong_at 1100 1
+    ∷ pong_at 1100 2
+    ∷ master_at 1100 0
+    ∷ replica_at 1100 1 6379 100
+    ∷ replica_at 1100 2 6379 200
+    ∷ switch_command 1200
+    ∷ []
+
+-- the second Sentinel votes, and the master is told to hand over to the best replica
+abbrev pub until_handed : List (ℕ × Event)
+until_handed =
+    until_asked
+    ++ (tick_at 1300
+    ∷ (1350, Answered (SentinelAt 1) 0 (local 6379) false (Some id_a) 1)
+    ∷ tick_at 1400
+    ∷ tick_at 1500
+    ∷ tick_at 1600
+    ∷ [])
+
+abbrev pub hand_over_order : List Output
+hand_over_order = sent (StoreAt 0) (HandOver (Some (record { node = StoreAt 2; addr = local 6381 }))) ∷ []
+
+-- begun: the master is up, votes are asked for all the same, and the master is told to hand over, not the replica. done: the replica says that it is a master, and
+-- the clients of both are sent away. stays: the master refuses, is told to stay at the next tick, and no failover runs then. busy: one at a time. strict: a strict
+-- Sentinel doesn't know the command. fresh, lapsed: the campaign begins within 3,000 ms or not at all
+pub record APlannedSwitch : Type 0 where
+  pub begun :
+      rare_from switch_plan (opened switch_plan 0) until_handed
+      ≡ (1200, text_answer (codes "+OK"))
+      ∷ (1300, asks 1 (Some id_a))
+      ∷ (1600, hand_over_order)
+      ∷ []
+  pub done :
+      rare_from switch_plan (core_of switch_plan until_handed) (tick_at 1700 ∷ master_at 1750 2 ∷ [])
+      ≡ (
+        1750,
+        Tell (record { master = 0; old = local 6379; card = record { epoch = 1; addr = local 6381 } })
+            ∷ sent (StoreAt 2) (ReplicaOf None)
+            ∷ sent (StoreAt 0) (ReplicaOf (Some (local 6381)))
+            ∷ [],
+      )
+      ∷ []
+  pub stays :
+      rare_from switch_plan (core_of switch_plan until_handed) ((1650, Refused (StoreAt 0)) ∷ tick_at 1700 ∷ tick_at 1800 ∷ [])
+      ≡ (1700, sent (StoreAt 0) (HandOver None) ∷ [])
+      ∷ []
+  pub idle : (failover_of (core_of switch_plan (until_handed ++ ((1650, Refused (StoreAt 0)) ∷ tick_at 1700 ∷ []))) 0).state ≡ Idle
+  pub busy :
+      rare_from switch_plan (core_of switch_plan until_asked) (switch_command 1250 ∷ [])
+      ≡ (1250, text_answer (codes "-INPROG Failover already in progress"))
+      ∷ []
+  pub strict :
+      rare_from (group_plan (kept_at_epoch 0)) (opened (group_plan (kept_at_epoch 0)) 0) until_handed
+      ≡ (1200, text_answer (codes "-ERR unknown command"))
+      ∷ []
+  pub fresh : is_wished (core_of switch_plan until_asked) 0 4200 ≡ true
+  pub lapsed : is_wished (core_of switch_plan until_asked) 0 4201 ≡ false
+
+-- a master that handed over without being told: it says that it is a replica of a node which says that it is a master. After two seconds and the pause, which is 0
+-- here, a campaign begins; strict Sentinels go on. Once elected the Sentinel has the node that took over promoted, though in the campaign's epoch its pause would
+-- be a longer one
+abbrev pub handed_over_alone : List (ℕ × Event)
+handed_over_alone =
+    tick_at 1000
+    ∷ pong_at 1100 0
+    ∷ pong_at 1100 1
+    ∷ pong_at 1100 2
+    ∷ replica_at 1100 0 6381 100
+    ∷ replica_at 1100 1 6381 100
+    ∷ master_at 1100 2
+    ∷ tick_at 2000
+    ∷ tick_at 3000
+    ∷ tick_at 3100
+    ∷ []
+
+pub record ASwitchAtTheNodes : Type 0 where
+  pub redis : rare_from switch_plan (opened switch_plan 0) handed_over_alone ≡ (3100, asks 1 (Some id_a)) ∷ []
+  pub strict : rare_from (group_plan (kept_at_epoch 0)) (opened (group_plan (kept_at_epoch 0)) 0) handed_over_alone ≡ []
+  pub chosen :
+      rare_from switch_plan (core_of switch_plan handed_over_alone)
+      ((3150, Answered (SentinelAt 1) 0 (local 6379) false (Some id_a) 1) ∷ tick_at 3200 ∷ tick_at 3300 ∷ tick_at 3400 ∷ [])
+      ≡ (3400, sent (StoreAt 2) (ReplicaOf None) ∷ [])
+      ∷ []
+
 -- Replicas
 
 -- a master and four replicas
@@ -599,6 +700,37 @@ AReplicaOfAnotherFollows =
 
 -- What clients are shown
 
+-- a replica at this port, of which PONG and INFO came 1,600 ms ago; the first PING since was sent 500 ms later
+abbrev pub replica_shown : (port offset : ℕ) → ReplicaRow
+replica_shown port offset =
+    record {
+      addr = local port;
+      down = false;
+      disconnected = false;
+      priority = 100;
+      offset = offset;
+      after_ms = 5000;
+      contact = record { ping_ms = 1100; valid_ms = 1600; reply_ms = 1600; down_ms = 0 };
+      said = record { id = None; info_ms = 1600; role = Replica; role_ms = 1600 };
+      link = record { down_ms = 0; up = true; master = Some (local 6379); announced = true };
+    }
+
+-- a Sentinel that never answered, and for whom it voted
+abbrev pub sentinel_shown : RunId → (port : ℕ) → Option RunId → (epoch : ℕ) → SentinelRow
+sentinel_shown id port leader epoch =
+    record {
+      id = id;
+      addr = local port;
+      down = true;
+      disconnected = false;
+      masters = 1;
+      after_ms = 5000;
+      hello_ms = 7100;
+      leader = leader;
+      leader_epoch = epoch;
+      contact = record { ping_ms = 7100; valid_ms = 7100; reply_ms = 7100; down_ms = 2100 };
+    }
+
 -- during the failover: the Sentinels that never answered a PING are down
 pub record ShownInAFailover : Type 0 where
   pub master :
@@ -617,15 +749,15 @@ pub record ShownInAFailover : Type 0 where
         timeout = 180000;
         parallel_syncs = 1;
         epoch = 0;
+        odown_ms = 100;
+        stage = StageWaitStart;
+        contact = record { ping_ms = 7100; valid_ms = 7100; reply_ms = 7100; down_ms = 2100 };
+        said = record { id = None; info_ms = 0; role = Master; role_ms = 7100 };
       }
   pub replicas :
       replica_rows failover_plan (failing_at 7100) 7100 0
-      ≡ record { addr = local 6380; down = false; disconnected = false; priority = 100; offset = 100 }
-      ∷ record { addr = local 6381; down = false; disconnected = false; priority = 100; offset = 200 }
-      ∷ []
+      ≡ replica_shown 6380 100 ∷ replica_shown 6381 200 ∷ []
   pub sentinels :
-      sentinel_rows failover_plan (failing_at 7100) 7100
-      ≡ record { id = id_b; addr = local 26380; down = true; disconnected = false }
-      ∷ record { id = id_c; addr = local 26381; down = true; disconnected = false }
-      ∷ []
+      sentinel_rows failover_plan (failing_at 7100) 7100 0
+      ≡ sentinel_shown id_b 26380 (Some id_a) 1 ∷ sentinel_shown id_c 26381 None 0 ∷ []
   pub usable : usable_count failover_plan (failing_at 7100) 7100 ≡ 1

@@ -1,6 +1,6 @@
 //! What an input has a Sentinel put out, before it shows what is kept.
 
-use ballot_law::{Addr, NodeName, OUTPUTS_MAX, RunId};
+use ballot_law::{Addr, Heir, NodeName, OUTPUTS_MAX, RunId};
 
 /// The greatest number of frames that one input puts out: each is one output.
 pub const FRAMES_MAX: usize = OUTPUTS_MAX;
@@ -26,6 +26,11 @@ pub enum Frame {
     },
     /// REPLICAOF NO ONE to a data node.
     PromoteTo(NodeName),
+    /// FAILOVER TO with the replica that is to take over, to a data node; without one FAILOVER ABORT.
+    HandOverTo {
+        target: NodeName,
+        heir: Option<Heir>,
+    },
     /// REPLICAOF with the address of a master's configuration, to a data node.
     FollowTo {
         target: NodeName,

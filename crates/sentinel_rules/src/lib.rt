@@ -10,6 +10,7 @@
 #![tactic(auto)]
 
 mod assumed;
+mod contacts;
 mod frames;
 mod laws;
 mod periods;
@@ -17,6 +18,7 @@ mod profiles;
 mod worked;
 
 pub use assumed::ASSUMED_INFO;
+pub use contacts::Contact;
 pub use frames::{FRAMES_MAX, Frame};
 pub use laws::{
     law_hellos_name_masters, law_ignored_inputs_change_nothing, law_inputs_are_steps,
@@ -24,11 +26,11 @@ pub use laws::{
     law_outputs_are_within,
 };
 pub use periods::{
-    ASK_MS, BUSY_INFO_MS, HELLO_MS, HOLD_MS, INFO_MS, LINK_MAX_S, PING_MS, QUIET_MS, WRONG_ROLE_MS,
-    law_periods,
+    ASK_MS, BUSY_INFO_MS, HANDED_MS, HEIR_INFO_MS, HELLO_MS, HOLD_MS, INFO_MS, LINK_MAX_S, PING_MS,
+    QUIET_MS, SWITCHED_MS, WISH_MS, WRONG_ROLE_MS, law_periods, law_waits,
 };
 pub use profiles::Profile;
 pub use worked::{
     law_example_answers, law_example_failover, law_example_no_failover, law_example_profiles,
-    law_example_replicas, law_example_tilt, law_example_votes,
+    law_example_replicas, law_example_switches, law_example_tilt, law_example_votes,
 };

@@ -1,7 +1,8 @@
 //! How often a Sentinel sends what, and how long it bears what is wrong, in milliseconds.
 
 ghost use Rattle.std.specs.Prelude.{◌≡◌};
-ghost use Rattle.sentinel_rules.specs.declared.periods.TheConstants.{ASK_MS, BUSY_INFO_MS, HELLO_MS, INFO_MS, PING_MS, WRONG_ROLE_MS, LINK_MAX_S, HOLD_MS, QUIET_MS};
+ghost use Rattle.sentinel_rules.specs.declared.periods.TheConstants.{ASK_MS, BUSY_INFO_MS, HELLO_MS, INFO_MS, PING_MS, WRONG_ROLE_MS, LINK_MAX_S, HOLD_MS, QUIET_MS, SWITCHED_MS, WISH_MS, HANDED_MS, HEIR_INFO_MS};
+ghost use Rattle.ballot_law.specs.declared.periods.TheConstants.{HAND_OVER_MS};
 ghost use Rattle.std.specs.Prelude.{◌+◌};
 ghost use Rattle.failover_states.specs.declared.periods.TheConstants.{ELECTION_MS, SPREAD_MS};
 
@@ -33,15 +34,36 @@ pub const HOLD_MS: u64 = 11_000;
 /// How long ago the last reply to a PING came, at least, of a choice that counts as gone where its connection was lost.
 pub const QUIET_MS: u64 = 1_000;
 
-/// These periods as numbers. Definitions and code cite them by name.
+/// For how long a master has said that it is a replica, at least, where that is taken for a switch that was made at the
+/// nodes: a hello of the other Sentinels' failover has come by then.
+pub const SWITCHED_MS: u64 = 2_000;
+
+/// For how long a switch that was asked for waits for the tick at which its campaign begins; after that it lapses.
+pub const WISH_MS: u64 = 3_000;
+
+/// For how long a failover waits for the choice of a master that was told to hand over, at most.
+pub const HANDED_MS: u64 = 2_500;
+
+/// How often INFO is sent to that choice.
+pub const HEIR_INFO_MS: u64 = 100;
+
+/// The periods of sending, and what is borne, as numbers. Definitions and code cite them by name.
 pub fn law_periods()
     ensures ping { PING_MS ≡ 1000 }
     ensures info { INFO_MS ≡ 10000 }
     ensures busy_info { BUSY_INFO_MS ≡ 1000 }
+    ensures heir { HEIR_INFO_MS ≡ 100 }
     ensures hello { HELLO_MS ≡ 2000 }
     ensures ask { ASK_MS ≡ 1000 }
     ensures wrong_role { WRONG_ROLE_MS ≡ 8000 }
+    ensures link { LINK_MAX_S ≡ 4294967295 }
+{}
+
+/// The waits of the profile of Redis as numbers.
+pub fn law_waits()
     ensures hold { HOLD_MS ≡ ELECTION_MS + SPREAD_MS }
     ensures quiet { QUIET_MS ≡ 1000 }
-    ensures link { LINK_MAX_S ≡ 4294967295 }
+    ensures switched { SWITCHED_MS ≡ 2000 }
+    ensures wish { WISH_MS ≡ 3000 }
+    ensures handed { HANDED_MS ≡ HAND_OVER_MS + 500 }
 {}

@@ -24,6 +24,8 @@ ghost use Rattle.sentinel_rules.specs.Worked.{
   ShownInAFailover,
   ASwitchForgetsTheStart,
   ALostCandidateHoldsNobodyBack,
+  APlannedSwitch,
+  ASwitchAtTheNodes,
 };
 
 /// Votes: one in an epoch, to the first that asks; a question without a candidate raises no epoch; after a restart the
@@ -73,6 +75,13 @@ pub fn law_example_replicas()
 pub fn law_example_profiles()
     ensures a_switch_forgets_the_start { ASwitchForgetsTheStart }
     ensures a_lost_candidate_holds_nobody_back { ALostCandidateHoldsNobodyBack }
+{}
+
+/// Switches of a master that is up: one that a client asks for, from the command to the new address, and one that was
+/// made at the nodes.
+pub fn law_example_switches()
+    ensures a_planned_switch { APlannedSwitch }
+    ensures a_switch_at_the_nodes { ASwitchAtTheNodes }
 {}
 
 /// After a jump of the clock nothing is judged for 30 seconds.

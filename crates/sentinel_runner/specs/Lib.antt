@@ -1,3 +1,4 @@
 pub mod Faults
 pub mod Groups
+pub mod Opening
 pub mod Orders

@@ -15,6 +15,7 @@ use crate::shared::Shared;
 use crate::started::Started;
 use crate::stop_flags::StopFlags;
 use channel_transport::{DataNodes, Links, NodeOrder, SharedNodes};
+use client_port::ReadsTimes;
 use conf_check::is_one_group;
 use crossbeam_channel::Receiver;
 use log::Log;
@@ -168,7 +169,7 @@ impl<S: ConfStore + Drop> Group<S> {
 
 impl<S: ConfStore + Drop + Send> Group<S> {
     /// Runs each Sentinel and the data nodes until `ending` isn't 0. The stores are gone then.
-    pub fn run<R: Threads + Wait + Clock + Log + Sync>(
+    pub fn run<R: Threads + Wait + Clock + ReadsTimes + Log + Sync>(
         self,
         rt: &R,
         ending: &AtomicU64,
@@ -179,12 +180,10 @@ impl<S: ConfStore + Drop + Send> Group<S> {
     }
 
     /// As `run`, with what serves the data nodes to clients.
-    pub fn run_with<P: ServesNodes + Drop + Send, R: Threads + Wait + Clock + Log + Sync>(
-        self,
-        rt: &R,
-        ports: P,
-        ending: &AtomicU64,
-    ) -> Result<(), GroupFault>
+    pub fn run_with<
+        P: ServesNodes + Drop + Send,
+        R: Threads + Wait + Clock + ReadsTimes + Log + Sync,
+    >(self, rt: &R, ports: P, ending: &AtomicU64) -> Result<(), GroupFault>
         ensures roster { IfErr result (λ fault. fault ≢ NotOneRoster) }
     {
         let Group {
@@ -209,7 +208,7 @@ impl<S: ConfStore + Drop + Send> Group<S> {
     /// stores are gone then.
     ///
     /// `Read` where the input couldn't be read to its end and nothing of the group was at fault.
-    pub fn run_by_orders<I: Read, R: Threads + Wait + Net + Clock + Log + Sync>(
+    pub fn run_by_orders<I: Read, R: Threads + Wait + Net + Clock + ReadsTimes + Log + Sync>(
         self,
         rt: &R,
         input: &mut I,
@@ -219,13 +218,11 @@ impl<S: ConfStore + Drop + Send> Group<S> {
     }
 
     /// As `run_by_orders`, with what serves the data nodes to clients.
-    pub fn run_by_orders_with<P, I: Read, R: Threads + Wait + Net + Clock + Log + Sync>(
-        self,
-        rt: &R,
-        ports: P,
-        input: &mut I,
-        ending: &AtomicU64,
-    ) -> Result<(), OrderedFault>
+    pub fn run_by_orders_with<
+        P,
+        I: Read,
+        R: Threads + Wait + Net + Clock + ReadsTimes + Log + Sync,
+    >(self, rt: &R, ports: P, input: &mut I, ending: &AtomicU64) -> Result<(), OrderedFault>
     where
         P: ServesNodes + Drop + Send,
     {
@@ -267,7 +264,7 @@ fn run_beside_ports<'a, S, P, R>(
 where
     S: ConfStore + Drop + Send,
     P: ServesNodes + Drop + Send,
-    R: Threads + Wait + Clock + Log + Sync,
+    R: Threads + Wait + Clock + ReadsTimes + Log + Sync,
 {
     thread::scope(thread::scope_env(), rt, |scope| {
         let begun = scope.spawn(move || ports.serve(rt, &shared.state, &shared.nodes, ending));
@@ -292,7 +289,7 @@ fn follow_beside_ports<'a, S, P, O: FollowsOrders + Drop, I: Read, R>(
 where
     S: ConfStore + Drop + Send,
     P: ServesNodes + Drop + Send,
-    R: Threads + Wait + Clock + Log + Sync,
+    R: Threads + Wait + Clock + ReadsTimes + Log + Sync,
 {
     thread::scope(thread::scope_env(), rt, |scope| {
         let begun = scope.spawn(move || ports.serve(rt, &shared.state, &shared.nodes, ending));
@@ -315,7 +312,7 @@ fn follow_beside<'a, S, O: FollowsOrders + Drop, I: Read, R>(
 ) -> Result<(), ReadFailed>
 where
     S: ConfStore + Drop + Send,
-    R: Threads + Wait + Clock + Log + Sync,
+    R: Threads + Wait + Clock + ReadsTimes + Log + Sync,
 {
     thread::scope(thread::scope_env(), rt, |scope| {
         let begun = scope.spawn(move || run_threads(rt, threads, shared, ending));
@@ -361,7 +358,7 @@ fn run_threads<'a, S, R>(
 )
 where
     S: ConfStore + Drop + Send,
-    R: Threads + Wait + Clock + Log + Sync,
+    R: Threads + Wait + Clock + ReadsTimes + Log + Sync,
 {
     let Beginning {
         sentinels,
@@ -391,7 +388,10 @@ where
 /// The stores stand in the order of the confs. `NotOneRoster` and `PortRefused` come before any thread is made; a
 /// `NoMemory` of a thread that can't be made sets `ending` to 1, so that the others end; `Halted` comes at the end,
 /// where a Sentinel was halted.
-pub fn run_group<S: ConfStore + Drop + Send, R: Threads + Wait + Net + Clock + Log + Sync>(
+pub fn run_group<
+    S: ConfStore + Drop + Send,
+    R: Threads + Wait + Net + Clock + ReadsTimes + Log + Sync,
+>(
     rt: &R,
     alloc: Global,
     confs: Vec<Conf>,

@@ -2,6 +2,7 @@
 
 ghost use Rattle.std.specs.Prelude.{◌≡◌, ◌≢◌, ◌<◌, ◌≤◌, ◌+◌, ◌-◌, ◌^◌, IfErr, IfOk, length};
 ghost use Rattle.sentinel_runner.specs.declared.opened.TheConstants.{PORT_THREADS_MAX};
+ghost use Rattle.sentinel_runner.specs.Opening.{IsOpenedBy};
 ghost use Rattle.std.specs.IoError.{error_kind};
 ghost use Rattle.sentinel_runner.specs.declared.group_fault.GroupFault.TheVariants.{NoMemory, NotOneRoster, PortRefused};
 
@@ -105,6 +106,7 @@ impl<S: ConfStore + Drop> Opened<S> {
         requires room { S.failure_count store < 2 ^ 64 - 1 }
         ensures roster { IfErr result (λ fault. fault ≢ NotOneRoster) }
         ensures seats { IfOk result (λ opened. opened.beside ≡ beside) }
+        ensures start { IfOk result (λ opened. IsOpenedBy conf room.profile 0 (S.held store) opened.cell.start) }
     {
         let number = conf.port();
         match Port::open(rt, alloc, number, room) {
@@ -121,6 +123,7 @@ impl<S: ConfStore + Drop> Opened<S> {
     /// Opens the Sentinel of this conf, of the profile of its port's room, at this reading of the clock, with what each
     /// thread of the port serves, and a seat for each of them and for the `beside` other threads. Many parameters: each
     /// is what the Sentinel begins with.
+    #[tactic(auto, using(crate::proofs::Opening::opens))]
     pub(crate) fn with_port(
         alloc: Global,
         conf: Conf,
@@ -134,6 +137,7 @@ impl<S: ConfStore + Drop> Opened<S> {
         requires threads { length ports.1.items + 1 ≡ room.threads }
         ensures roster { IfErr result (λ fault. fault ≢ NotOneRoster) }
         ensures seats { IfOk result (λ opened. opened.beside ≡ beside) }
+        ensures start { IfOk result (λ opened. IsOpenedBy conf room.profile now (S.held store) opened.cell.start) }
     {
         let (port, others) = ports;
         let (number, place) = (conf.port(), conf.place());

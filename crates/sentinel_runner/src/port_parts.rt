@@ -5,7 +5,7 @@ ghost use Rattle.std.specs.Prelude.{◌≡◌, IfOk, length};
 use crate::group_fault::GroupFault;
 use crate::opened::fault_of;
 use channel_transport::Delivery;
-use client_port::Port;
+use client_port::{Port, ReadsTimes};
 use crossbeam_channel::{Receiver, Sender};
 use log::Log;
 use sentinel_conf::ConfStore;
@@ -34,21 +34,18 @@ pub(crate) struct PortPart<J: Which> {
     pub(crate) back: Option<Sender<Back<J>>>,
 }
 
-/// What a thread of a port of such a Sentinel does. By this trait `serve_parts` knows of a part no more than that it
-/// may be sent.
-pub(crate) trait ServesPort<M> {
+/// What a thread of a port of such a Sentinel does with this runtime. By this trait `serve_parts` knows of a part no
+/// more than that it may be sent. The runtime is a parameter of the trait and not of its method.
+pub(crate) trait ServesPort<M, R> {
     /// Serves the port until `ending` isn't 0. Then it is closed.
-    fn serve<R: Wait + Clock + Log>(self, rt: &R, state: &RunState, member: &M, ending: &AtomicU64);
+    fn serve(self, rt: &R, state: &RunState, member: &M, ending: &AtomicU64);
 }
 
-impl<J: Which, S: ConfStore> ServesPort<RunningSentinel<J, S>> for PortPart<J> {
-    fn serve<R: Wait + Clock + Log>(
-        self,
-        rt: &R,
-        state: &RunState,
-        member: &RunningSentinel<J, S>,
-        ending: &AtomicU64,
-    ) {
+impl<J: Which, S: ConfStore, R: Wait + Clock + ReadsTimes + Log> ServesPort<
+    RunningSentinel<J, S>,
+    R,
+> for PortPart<J> {
+    fn serve(self, rt: &R, state: &RunState, member: &RunningSentinel<J, S>, ending: &AtomicU64) {
         let PortPart {
             mut port,
             mut seat,
@@ -97,7 +94,7 @@ pub(crate) fn parts_of<J: Which>(
 
 /// Starts the further threads of the port, and serves it as the first one. Then it listens no more, before the others
 /// end.
-pub(crate) fn serve_parts<'a, M: Sync, P: ServesPort<M> + Drop + Send, R>(
+pub(crate) fn serve_parts<'a, M: Sync, P: ServesPort<M, R> + Drop + Send, R>(
     rt: &'a R,
     state: &'a RunState,
     member: &'a M,
@@ -106,7 +103,7 @@ pub(crate) fn serve_parts<'a, M: Sync, P: ServesPort<M> + Drop + Send, R>(
     ending: &'a AtomicU64,
 )
 where
-    R: Threads + Wait + Clock + Log + Sync,
+    R: Threads + Wait + Sync,
 {
     thread::scope(thread::scope_env(), rt, |scope| {
         let mut refused = false;

@@ -10,7 +10,7 @@ use crate::port_parts::{Back, PortPart, ServesPort, end_for_want, end_of, parts_
 use crate::restarts::{LifeEnds, Restart, Restarts, Resting};
 use crate::shared::Shared;
 use channel_transport::{Delivery, Links, run_link, run_timer};
-use client_port::Port;
+use client_port::{Port, ReadsTimes};
 use crossbeam_channel::{Receiver, RecvTimeoutError, Sender, unbounded};
 use log::Log;
 use sentinel_cell::Keeper;
@@ -111,7 +111,7 @@ impl<S: ConfStore + Drop> LifeEnds<S> {
 impl<S: ConfStore + Drop> Life<S> {
     /// Runs the threads of the Sentinel until the word isn't 0; this thread is the first one of the port. None where a
     /// thread couldn't be made.
-    fn run<R: Threads + Wait + Clock + Log + Sync>(
+    fn run<R: Threads + Wait + Clock + ReadsTimes + Log + Sync>(
         self,
         rt: &R,
         alloc: Global,
@@ -151,7 +151,7 @@ impl<S: ConfStore + Drop> Started<S> {
 
     /// Runs its threads until `ending` isn't 0; each time that it is stopped they end, and when it is started there are
     /// others. Where they can't be made, the group ends.
-    pub(crate) fn run<R: Threads + Wait + Clock + Log + Sync>(
+    pub(crate) fn run<R: Threads + Wait + Clock + ReadsTimes + Log + Sync>(
         self,
         rt: &R,
         alloc: Global,
@@ -232,7 +232,7 @@ fn run_named<J: Which + Send + Sync, S: ConfStore + Drop + Send, R>(
     stop: &AtomicU64,
 ) -> Option<Left<S>>
 where
-    R: Threads + Wait + Clock + Log + Sync,
+    R: Threads + Wait + Clock + ReadsTimes + Log + Sync,
     requires named { opened.cell.id ≡ J.cell }
     requires seats { opened.beside ≡ BESIDE }
 {
@@ -279,7 +279,6 @@ fn none_for_want<S>(state: &RunState, stop: &AtomicU64) -> Option<Left<S>> {
 #[derive(Drop)]
 struct TimerPart<J: Which> {
     seat: ThreadSeat<J>,
-    alloc: Global,
     back: Sender<Back<J>>,
 }
 
@@ -325,12 +324,8 @@ impl<J: Which, S: ConfStore> UsesLinks<RunningSentinel<J, S>> for LinkedPart<J> 
     ) {
         match self {
             LinkedPart::Timer(part) => {
-                let TimerPart {
-                    mut seat,
-                    alloc,
-                    back,
-                } = part;
-                run_timer(rt, alloc, state, links, member, &mut seat, ending);
+                let TimerPart { mut seat, back } = part;
+                run_timer(rt, state, links, member, &mut seat, ending);
                 drop(back.send(rt, Back::Seat(seat)));
             }
             LinkedPart::Link(part) => {
@@ -374,7 +369,6 @@ impl<J: Which> Seated<J> {
         };
         let timer = TimerPart {
             seat: timer,
-            alloc,
             back: back.clone()?,
         };
         let link = LinkPart {
@@ -418,7 +412,7 @@ fn run_threads<'a, M: Sync, L, P, R>(
 )
 where
     L: UsesLinks<M> + Drop + Send,
-    P: ServesPort<M> + Drop + Send,
+    P: ServesPort<M, R> + Drop + Send,
     R: Threads + Wait + Clock + Log + Sync,
 {
     let Parts {

@@ -1,7 +1,8 @@
 //! One Sentinel of its own, which watches Redis servers and speaks to the other Sentinels over TCP.
 
-ghost use Rattle.std.specs.Prelude.{◌≡◌, ◌≢◌, ◌<◌, ◌≤◌, ◌+◌, ◌-◌, ◌^◌, [], false, IfErr, IfOk, IsFalse, OnOk, length};
-ghost use Rattle.sentinel_rules.specs.Profiles.{is_redis};
+ghost use Rattle.std.specs.Prelude.{◌≡◌, ◌≢◌, ◌<◌, ◌≤◌, ◌+◌, ◌-◌, ◌^◌, IfErr, IfOk, IfSome, OnOk, length};
+ghost use Rattle.sentinel_conf.specs.Rewritten.{rewritten};
+ghost use Rattle.sentinel_runner.specs.Opening.{IsOpenedAnew};
 ghost use Rattle.sentinel_runner.specs.declared.group_fault.GroupFault.TheVariants.{NotOneRoster};
 ghost use Rattle.sentinel_runner.specs.declared.opened.TheConstants.{PORT_THREADS_MAX};
 ghost use Rattle.sentinel_runner.specs.declared.watch.TheConstants.{BESIDE};
@@ -10,7 +11,7 @@ use crate::group::outcome;
 use crate::group_fault::GroupFault;
 use crate::opened::{Opened, PortSettings, fault_of};
 use crate::port_parts::{PortPart, ServesPort, end_for_want, note_lost, parts_of, serve_parts};
-use client_port::{Admission, Port, PortAddress, PortRoom, Sockets, seats_beside};
+use client_port::{Admission, Port, PortAddress, PortRoom, ReadsTimes, Sockets, seats_beside};
 use links::connection_count;
 use log::{Log, info, warn};
 use sentinel_conf::{Conf, ConfStore, ConfText, rewrite_into};
@@ -62,6 +63,7 @@ pub struct Watch<S: ConfStore> {
 fn prove_store<S: ConfStore>(alloc: Global, conf: &Conf, store: &mut S) -> Result<(), GroupFault>
     requires { S.failure_count store.old < 2 ^ 64 - 1 }
     ensures ok { OnOk result (S.failure_count store.new ≡ S.failure_count store.old) }
+    ensures written { OnOk result (IfSome (S.held store.new) (λ bytes. bytes ≡ rewritten conf.now conf.now.kept)) }
     ensures roster { IfErr result (λ fault. fault ≢ NotOneRoster) }
 {
     let Ok(mut text) = ConfText::room_for(alloc, conf) else {
@@ -89,18 +91,8 @@ fn wires_of<R: Net>(
     }
 }
 
-/// Whether clients of a port that is served so are to give a password, and none asks them for it.
-fn asks_in_vain(port: PortSettings, admission: &Admission) -> bool
-    ensures { IsFalse result → is_redis port.profile ≡ false → admission.now.password ≡ [] }
-{
-    match admission.password.as_slice() {
-        [] => false,
-        _ => !port.profile.is_redis(),
-    }
-}
-
 /// How many connections each thread of its port keeps, which is served so and wants so many, beside those that the
-/// Sentinel of this conf opens itself; `PortRefused` also where clients would have to give a password that nobody asks.
+/// Sentinel of this conf opens itself.
 fn room_of<R: Net>(
     rt: &R,
     alloc: Global,
@@ -110,12 +102,8 @@ fn room_of<R: Net>(
 ) -> Result<PortRoom, GroupFault>
     ensures threads { IfOk result (λ room. 0 < port.threads → port.threads ≤ PORT_THREADS_MAX → room.threads ≡ port.threads) }
     ensures profile { IfOk result (λ room. room.profile ≡ port.profile) }
-    ensures asked { IfOk result (λ _. is_redis port.profile ≡ false → admission.now.password ≡ []) }
     ensures roster { IfErr result (λ fault. fault ≢ NotOneRoster) }
 {
-    if asks_in_vain(port, admission) {
-        return Err(GroupFault::PortRefused);
-    }
     let own = connection_count(conf.roster()) as u64;
     let threads = port.threads_of_each();
     let room = match seats_beside(rt, alloc, threads, own, admission.wanted(threads)) {
@@ -165,7 +153,6 @@ fn port_of<R: Net + Log>(
     room: PortRoom,
     admission: &Admission,
 ) -> Result<(Port, Vec<Port>), GroupFault>
-    requires asked { is_redis room.profile ≡ false → admission.now.password ≡ [] }
     ensures threads { IfOk result (λ parts. length parts.1.items + 1 ≡ room.threads) }
     ensures roster { IfErr result (λ fault. fault ≢ NotOneRoster) }
 {
@@ -181,6 +168,7 @@ fn port_of<R: Net + Log>(
 }
 
 /// The Sentinel of this conf with its port, once the store has taken what the conf keeps.
+#[tactic(auto, using(crate::proofs::Opening::opens_anew))]
 fn opened_of<S: ConfStore + Drop>(
     alloc: Global,
     conf: Conf,
@@ -192,9 +180,11 @@ fn opened_of<S: ConfStore + Drop>(
     requires threads { length ports.1.items + 1 ≡ room.threads }
     ensures roster { IfErr result (λ fault. fault ≢ NotOneRoster) }
     ensures seats { IfOk result (λ opened. opened.beside ≡ BESIDE) }
+    ensures start { IfOk result (λ opened. IsOpenedAnew conf room.profile 0 opened.cell.start) }
 {
     prove_store(alloc, &conf, &mut store)?;
-    Opened::with_port(alloc, conf, store, ports, room, BESIDE, 0)
+    let opened = Opened::with_port(alloc, conf, store, ports, room, BESIDE, 0)?;
+    Ok(opened)
 }
 
 impl<S: ConfStore + Drop> Watch<S> {
@@ -203,6 +193,7 @@ impl<S: ConfStore + Drop> Watch<S> {
     ///
     /// `Halted` where the store refuses that, `PortRefused` where a port can't be had, or would have to want a password
     /// of clients by a strict profile, which asks nobody for one, and `NoMemory`: `NotOneRoster` never comes.
+    #[tactic(auto, using(crate::proofs::Opening::opens_as))]
     pub fn open<R: Net + Clock + Log>(
         rt: &R,
         alloc: Global,
@@ -211,6 +202,7 @@ impl<S: ConfStore + Drop> Watch<S> {
         settings: WatchSettings,
     ) -> Result<Watch<S>, GroupFault>
         requires { S.failure_count store < 2 ^ 64 - 1 }
+        ensures start { IfOk result (λ watch. IsOpenedAnew conf settings.port.profile 0 watch.watching.opened.cell.start) }
         ensures roster { IfErr result (λ fault. fault ≢ NotOneRoster) }
     {
         let WatchSettings {
@@ -245,7 +237,10 @@ impl<S: ConfStore + Drop> Watch<S> {
     ///
     /// `Halted` where the store refused a text, whichever thread met that; `PortRefused` where the system no longer
     /// tells of the connections, and `NoMemory` where a thread couldn't be made: `NotOneRoster` never comes.
-    pub fn run<R: Threads + Wait + Net + Clock + Log + Sync>(self, rt: &R) -> Result<(), GroupFault>
+    pub fn run<R: Threads + Wait + Net + Clock + ReadsTimes + Log + Sync>(
+        self,
+        rt: &R,
+    ) -> Result<(), GroupFault>
     where
         S: Send,
         ensures roster { IfErr result (λ fault. fault ≢ NotOneRoster) }
@@ -270,7 +265,7 @@ fn run_named<J: Which + Send + Sync, S: ConfStore + Drop + Send, R, N: Net>(
     wires: Connections,
 )
 where
-    R: Threads + Wait + Clock + Log + Sync,
+    R: Threads + Wait + Clock + ReadsTimes + Log + Sync,
     requires named { watching.opened.cell.id ≡ J.cell }
 {
     let Watching { opened, far, alloc } = watching;
@@ -387,7 +382,7 @@ struct WatchParts<T, P> {
 }
 
 /// Starts the thread of the ticks, and serves the port.
-fn run_beside<'a, M: Sync, T: Ticks<M> + Drop + Send, P: ServesPort<M> + Drop + Send, R>(
+fn run_beside<'a, M: Sync, T: Ticks<M> + Drop + Send, P: ServesPort<M, R> + Drop + Send, R>(
     rt: &'a R,
     state: &'a WatchState,
     member: &'a M,
@@ -444,7 +439,7 @@ fn run_parts<'a, M: Sync, T, P, W: RunsWires, R>(
 )
 where
     T: Ticks<M> + Drop + Send,
-    P: ServesPort<M> + Drop + Send,
+    P: ServesPort<M, R> + Drop + Send,
     R: Threads + Wait + Clock + Log + Sync,
 {
     thread::scope(thread::scope_env(), rt, |scope| {

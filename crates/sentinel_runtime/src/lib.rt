@@ -9,10 +9,10 @@
 
 mod clock;
 mod known_epoch;
-mod lookout;
 mod named;
 mod news;
 mod notes;
+mod notices;
 mod outlet;
 mod run_state;
 mod running_sentinel;

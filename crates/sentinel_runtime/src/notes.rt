@@ -1,14 +1,15 @@
-//! What a Sentinel notes of its outputs, in Redis's words, and where its events go.
+//! Where the events of a Sentinel go, and in which order.
 
 use crate::named::{NamedChannel, NamedMaster, NamedNode};
 use crate::news::NewsLists;
+use crate::notices::tell_notice;
 use crate::switches::{Switch, switch_of};
-use ballot_law::{Addr, Body, Event, Message, NodeName, Note, Output, Roster, Text};
+use ballot_law::{Output, Roster};
 use log::kv::With;
 use log::{Level, Log, Span, info, log_enabled};
 use pubsub::Channel;
+use sentinel_state::{MasterNotice, Notice};
 use std::fmt::Display;
-use std::str::from_utf8;
 use std::sync::Wait;
 
 /// Where the events of a Sentinel go: to the log, with its port, and to the threads of its port, where these tell their
@@ -58,107 +59,52 @@ impl<'r, 'n, R: Log + Wait> Announcing<'r, 'n, R> {
     }
 }
 
-/// Tells whose hello brought a configuration: the hello's first three fields are the sender's ip, port and run id.
-fn tell_source<R: Log + Wait>(to: &Announcing<'_, '_, R>, hello: &Text, old: NamedMaster<'_>) {
-    let mut fields = from_utf8(hello.as_slice()).unwrap_or("").split(',');
-    if let (Some(ip), Some(port), Some(id)) = (fields.next(), fields.next(), fields.next()) {
-        to.tell(
-            Channel::ConfigUpdateFrom,
-            format_args!("sentinel {id} {ip} {port} @ {old}"),
-        );
-    }
-}
-
-/// Tells what brings the change of a master's address.
-fn tell_cause<R: Log + Wait>(
+/// Tells the changes of an address among the outputs of one input, which the call with this entry showed.
+fn tell_switches<R: Log + Wait>(
     to: &Announcing<'_, '_, R>,
     roster: &Roster,
-    cause: &Event,
-    note: &Note,
+    outputs: &[Output],
+    entry: u64,
 ) {
-    let Some(old) = NamedMaster::of(roster, note.master, note.old) else {
-        return;
-    };
-    match cause {
-        Event::InfoRead { .. } => {
-            to.tell_replica(Channel::PromotedReplica, NamedNode::at(note.card.addr), old)
+    for output in outputs {
+        if let Some(switch) = switch_of(output, entry) {
+            to.tell_switch(roster, switch);
         }
-        Event::HelloRead { text } => tell_source(to, text, old),
-        _ => {}
     }
 }
 
-/// The channel of an order to follow the master: in a failover one by a tick, else one since the INFO of the data node
-/// was wrong.
-fn channel_of_order(cause: &Event) -> Channel {
-    match cause {
-        Event::Tick { .. } => Channel::ReplicaReconfigured,
-        Event::InfoRead { text, .. } if is_of_master(text) => Channel::ConvertToReplica,
-        _ => Channel::FixReplicaConfig,
-    }
-}
-
-/// Tells that a data node was told to follow the master at an address.
-fn tell_order<R: Log + Wait>(
-    to: &Announcing<'_, '_, R>,
-    roster: &Roster,
-    cause: &Event,
-    number: u16,
-    addr: Addr,
-) {
-    let Some(at) = roster.node_numbered(number) else {
-        return;
-    };
-    let Some(master) = NamedMaster::of(roster, at.master, addr) else {
-        return;
-    };
-    let node = NamedNode::at(roster.addr_at(at));
-    to.tell_replica(channel_of_order(cause), node, master);
-}
-
-/// Whether an INFO is that of a master.
-fn is_of_master(info: &Text) -> bool {
-    from_utf8(info.as_slice())
-        .unwrap_or("")
-        .split("\r\n")
-        .any(|line| line == "role:master")
-}
-
-/// Tells of an order, where the message is one to follow a master.
-fn tell_message<R: Log + Wait>(
-    to: &Announcing<'_, '_, R>,
-    roster: &Roster,
-    cause: &Event,
-    message: &Message,
-) {
-    match (message.target, &message.body) {
-        (NodeName::StoreAt(number), Body::ReplicaOf(Some(addr))) => {
-            tell_order(to, roster, cause, number, *addr)
+/// Whether this tells that the address of a master has changed.
+fn is_move(notice: Notice) -> bool {
+    matches!(
+        notice,
+        Notice::OfMaster {
+            what: MasterNotice::Moved,
+            ..
         }
-        _ => {}
-    }
+    )
 }
 
-/// Tells what the outputs of one input tell by themselves, which the call with this entry showed: changes of an
-/// address, and orders to data nodes.
+/// Tells what was noted up to the end of one input, and at its place among that the change of an address, where the
+/// input has one: that is told by its output, which the call with this entry showed, also where its notice was lost.
 pub(crate) fn tell_all<R: Log + Wait>(
     to: &Announcing<'_, '_, R>,
     roster: &Roster,
-    cause: &Event,
+    notices: &[Notice],
     outputs: &[Output],
     entry: u64,
 ) {
     let is_heard = to.is_heard();
-    for output in outputs {
-        if let Some(switch) = switch_of(output, entry) {
-            if is_heard {
-                tell_cause(to, roster, cause, &switch.note);
-            }
-            to.tell_switch(roster, switch);
+    let mut are_told = false;
+    for notice in notices {
+        if is_move(*notice) && !are_told {
+            tell_switches(to, roster, outputs, entry);
+            are_told = true;
         }
-        match output {
-            Output::Send(message) if is_heard => tell_message(to, roster, cause, message),
-            _ => {}
+        if is_heard {
+            tell_notice(to, roster, *notice);
         }
+    }
+    if !are_told {
+        tell_switches(to, roster, outputs, entry);
     }
 }

@@ -17,7 +17,7 @@ use crate::news::{News, NewsLists};
 use crate::notes::{Announcing, tell_all};
 use crate::outlet::{Outlet, send_all};
 use crate::run_state::RunState;
-use crate::sight::{Look, Sight};
+use crate::sight::Sight;
 use crate::switches::Switch;
 use crate::ticking::TICK_MS;
 use ballot_law::{Event, Input, NoMemory, Output, Roster};
@@ -35,6 +35,9 @@ use std::marker::{Brand, PhantomData};
 use std::sync::atomic::{AtomicU64, Ordering};
 use std::sync::{Mutex, Wait};
 
+/// What stands for no reading of the clock: it is above each of them.
+const NOT_TILTED: u64 = u64::MAX;
+
 /// Which Sentinel it is. Only proofs read it.
 pub trait Which {
     ghost use Rattle.atomic_table.specs.Seated.{TableId};
@@ -49,7 +52,8 @@ impl Which for Brand {
 }
 
 /// A Sentinel of the group, which its threads share. `far` is the last request for a vote whose epoch was too far above
-/// the one that is `known`, until it is taken.
+/// the one that is `known`, until it is taken. `tilted` is the clock's reading since which it is in TILT, or
+/// `NOT_TILTED`.
 #[derive(Drop)]
 pub struct RunningSentinel<J: Which, S: ConfStore> {
     cell: SharedSentinel<S>,
@@ -59,6 +63,7 @@ pub struct RunningSentinel<J: Which, S: ConfStore> {
     known: KnownEpoch,
     far: Mutex<Option<FarRequest>>,
     halt_noted: AtomicU64,
+    tilted: AtomicU64,
     of: PhantomData<J>,
     ghost is: { cell.id ≡ J.cell },
 }
@@ -82,7 +87,7 @@ fn with_outbox<J: Which>(alloc: Global, seat: Seat) -> ThreadSeat<J>
     ThreadSeat {
         seat,
         outbox: Outbox::new(alloc),
-        sight: Sight::none(),
+        sight: Sight::new(alloc),
         of: PhantomData,
     }
 }
@@ -101,25 +106,6 @@ impl<J: Which> ThreadSeat<J> {
         seat
     }
 
-    /// What the last input gave.
-    pub(crate) fn outputs(&self) -> &[Output] {
-        self.outbox.outputs()
-    }
-
-    /// Has the next turn, at this reading of the clock in milliseconds, take down what the Sentinel shows of a master.
-    pub(crate) fn want(&mut self, master: u16, now: u64)
-        ensures { (self.new.seat ≡ self.old.seat) × (self.new.outbox ≡ self.old.outbox) }
-    {
-        self.sight.want(master, now);
-    }
-
-    /// What the last turn took down.
-    pub(crate) fn take_look(&mut self) -> Option<Look>
-        ensures { (self.new.seat ≡ self.old.seat) × (self.new.outbox ≡ self.old.outbox) }
-    {
-        self.sight.take()
-    }
-
     /// Has the next turn see whether a campaign for this master is near, at this reading of the clock in milliseconds,
     /// now or later: whether the Sentinel finds it objectively down then, where nothing else is heard, while no
     /// failover of it runs.
@@ -136,6 +122,11 @@ impl<J: Which> ThreadSeat<J> {
         ensures { (self.new.seat ≡ self.old.seat) × (self.new.outbox ≡ self.old.outbox) }
     {
         self.sight.take_nearness()
+    }
+
+    /// Whether a switch was under way at the end of the last turn that a client asked for.
+    pub fn is_switching(&self) -> bool {
+        self.sight.is_switching()
     }
 }
 
@@ -165,6 +156,7 @@ impl<J: Which, S: ConfStore> RunningSentinel<J, S> {
             known: KnownEpoch::none(),
             far: Mutex::new(None),
             halt_noted: AtomicU64::new(0),
+            tilted: AtomicU64::new(NOT_TILTED),
             of: PhantomData,
         };
         Ok((member, with_outbox(alloc, seat)))
@@ -225,6 +217,7 @@ impl<J: Which, S: ConfStore> RunningSentinel<J, S> {
             known: _,
             far: _,
             halt_noted: _,
+            tilted: _,
             of: _,
         } = self;
         let mut whole = seats.pop()?.into_seat();
@@ -275,12 +268,13 @@ impl<J: Which, S: ConfStore> RunningSentinel<J, S> {
         let input = Input { now, event };
         let entry = self.turn(rt, seat, &input)?;
         self.settle(&mut seat.sight, now);
+        self.note_tilt(seat.sight.is_tilted(), now);
         let outputs = seat.outbox.outputs();
         send_all(outlet, outputs);
         tell_all(
             &self.announcing(rt),
             self.roster(),
-            &input.event,
+            seat.sight.notices(),
             outputs,
             entry,
         );
@@ -297,6 +291,24 @@ impl<J: Which, S: ConfStore> RunningSentinel<J, S> {
     /// Whether it is still to be noted that it is halted; a second time it isn't.
     pub(crate) fn takes_halt_note(&self) -> bool {
         self.halt_noted.swap(1, Ordering::SeqCst) == 0
+    }
+
+    /// At this reading of the clock in milliseconds it is in TILT or isn't, as the last turn saw it.
+    fn note_tilt(&self, is_tilted: bool, now: u64) {
+        if !is_tilted {
+            self.tilted.store(NOT_TILTED, Ordering::SeqCst);
+        } else if self.tilted.load(Ordering::SeqCst) == NOT_TILTED {
+            self.tilted.store(now, Ordering::SeqCst);
+        }
+    }
+
+    /// For how many milliseconds it is in TILT at this reading of the clock, as far as calls of `carry_out` saw it;
+    /// none where it isn't.
+    pub fn tilted_for(&self, now: u64) -> Option<u64> {
+        match self.tilted.load(Ordering::SeqCst) {
+            NOT_TILTED => None,
+            since => Some(now.saturating_sub(since)),
+        }
     }
 
     /// Whether its port is closed: it is halted, which a thread noted, and a halted one closes its port.

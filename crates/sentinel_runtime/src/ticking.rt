@@ -11,7 +11,6 @@ ghost use Rattle.sentinel_cell.specs.declared.fault.ActFault.{ActFault};
 ghost use Rattle.ballot_law.specs.Limits.{IsWithinEvent};
 
 use crate::clock::millis_of;
-use crate::lookout::Lookout;
 use crate::outlet::Outlet;
 use crate::run_state::{RunFault, RunState};
 use crate::running_sentinel::{RunningSentinel, ThreadSeat, Which};
@@ -19,7 +18,6 @@ use ballot_law::Event;
 use log::{Log, warn};
 use sentinel_cell::ActFault;
 use sentinel_conf::ConfStore;
-use std::alloc::Global;
 use std::rt::Clock;
 use std::sync::Wait;
 
@@ -77,22 +75,20 @@ fn until_tick(now: u64, phase: u64) -> u64
     }
 }
 
-/// When the next ticks of a Sentinel's masters are due, and what the last ones showed.
+/// When the next ticks of a Sentinel's masters are due.
 #[derive(Drop)]
 pub struct Ticker {
-    lookout: Lookout,
     phase: u64,
     due: u64,
 }
 
 impl Ticker {
     /// The ticks of this Sentinel's masters, of which the first are due at once.
-    pub fn new<J: Which, S: ConfStore>(alloc: Global, member: &RunningSentinel<J, S>) -> Ticker
+    pub fn new<J: Which, S: ConfStore>(member: &RunningSentinel<J, S>) -> Ticker
         ensures due { result.due ≡ 0 }
         ensures phase { result.phase ≡ phase_of member.now.place (group_size member.now.cell.start.plan) }
     {
         Ticker {
-            lookout: Lookout::new(alloc, member.masters()),
             phase: member.phase(),
             due: 0,
         }
@@ -177,51 +173,10 @@ impl Ticker {
     {
         let elapsed = state.clock.elapsed(rt);
         let (now, random) = (millis_of(elapsed), u64::from(elapsed.subsec_nanos()));
-        want_noted(rt, member, seat, master, now);
+        seat.look_ahead(master, now.saturating_add(TICK_MS));
         let acted = member.carry_out(rt, seat, outlet, now, Event::Tick { master, random });
-        self.note_look(rt, member, seat, master);
         goes_on_noted(rt, state, member, acted)
     }
-
-    /// Notes what the last turn took down of a master.
-    fn note_look<J: Which, S: ConfStore, R: Wait + Log>(
-        &mut self,
-        rt: &R,
-        member: &RunningSentinel<J, S>,
-        seat: &mut ThreadSeat<J>,
-        master: u16,
-    )
-        ensures seat { (seat.new.seat ≡ seat.old.seat) × (seat.new.outbox ≡ seat.old.outbox) }
-        ensures due { (self.new.due ≡ self.old.due) × (self.new.phase ≡ self.old.phase) }
-    {
-        let Some(look) = seat.take_look() else {
-            return;
-        };
-        self.lookout.note(
-            &member.announcing(rt),
-            member.roster(),
-            master,
-            &look,
-            seat.outputs(),
-        );
-    }
-}
-
-/// Has the next turn take down what the Sentinel shows of a master, where that is noted or told, and see whether a
-/// campaign for it is near at the next ticks.
-fn want_noted<J: Which, S: ConfStore, R: Wait + Log>(
-    rt: &R,
-    member: &RunningSentinel<J, S>,
-    seat: &mut ThreadSeat<J>,
-    master: u16,
-    now: u64,
-)
-    ensures { (seat.new.seat ≡ seat.old.seat) × (seat.new.outbox ≡ seat.old.outbox) }
-{
-    if member.announcing(rt).is_heard() {
-        seat.want(master, now);
-    }
-    seat.look_ahead(master, now.saturating_add(TICK_MS));
 }
 
 /// Has the Sentinel take what was heard for it: whether it goes on. What it says goes to the outlet.

@@ -1,3 +1,4 @@
+pub mod AtPlaces
 pub mod FewPlaces
 pub mod KeptLemmas
 pub mod NodesLemmas

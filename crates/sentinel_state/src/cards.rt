@@ -56,6 +56,8 @@ impl Core {
     pub fn relocate(&mut self, plan: &Plan, m: u16, now: u64)
         ensures { self.new ≡ with_master self.old m (at_new_address plan.now.profile (clock now) (master_of self.old m)) }
     {
+        let of = self.then(m);
+        self.notices.see_move(of);
         if let Some(master) = self.masters.get_mut(m as usize) {
             master.relocate(plan.profile(), now);
         }

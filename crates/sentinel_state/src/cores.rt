@@ -4,13 +4,14 @@ ghost use Rattle.std.specs.Prelude.{◌≡◌, ◌<◌, ◌≤◌, length, map, 
 ghost use Rattle.ballot_law.specs.declared.rosters.TheConstants.{MASTERS_MAX, NODES_MAX, SENTINELS_MAX};
 ghost use Rattle.ballot_law.specs.Ballots.{card_of, kept_of, voted_of};
 ghost use Rattle.ballot_law.specs.Clocks.{clock};
-ghost use Rattle.sentinel_rules.specs.States.{opened, is_tilted, card_place, node_down_since, is_node_down, is_master_down, is_peer_down, is_odown_at, is_failing_over, is_idle, new_master, with_current, with_card, with_node, node_of, no_node, peer_of};
+ghost use Rattle.sentinel_rules.specs.States.{opened, is_tilted, card_place, node_down_since, is_node_down, is_master_down, peer_down_since, is_peer_down, is_odown_at, is_failing_over, is_idle, new_master, with_current, with_card, with_node, node_of, no_node, peer_of};
 ghost use Rattle.sentinel_rules.specs.Answers.{master_with_card};
 ghost use Rattle.sentinel_rules.specs.Ticks.{with_reading};
 ghost use Rattle.sentinel_rules.specs.Plans.{roster_of, group_size, master_count};
 
 use crate::masters::Master;
 use crate::nodes::{Node, Peer, Plan};
+use crate::notices::Notices;
 use ballot_law::{Addr, Card, Info, Kept, KeptMaster, KeptMasters, NoMemory, RunId, Win};
 use down_detector::{Tilt, is_odown};
 use failover_states::FailoverState;
@@ -37,6 +38,8 @@ pub struct Core {
     pub(crate) clock: Tilt,
     pub(crate) random: u64,
     pub(crate) won: Option<Win>,
+    /// What its rules did, for whoever tells of it; contracts don't see it.
+    pub(crate) notices: Notices,
 }
 
 impl Model for Core {
@@ -135,6 +138,7 @@ impl Core {
             clock: Tilt::new(now),
             random: 0,
             won: None,
+            notices: Notices::with_room(alloc, plan.master_count())?,
         })
     }
 
@@ -239,13 +243,19 @@ impl Core {
         self.is_node_down(plan, m, now, card_at, card_at)
     }
 
+    /// Since when the Sentinel at a place has been subjectively down, by the first master's `down-after-milliseconds`.
+    pub fn peer_down_since(&self, plan: &Plan, now: u64, place: usize) -> Option<u64>
+        ensures { result ≡ peer_down_since plan.now self.now (clock now) place }
+    {
+        let after_ms = plan.settings(0).after_ms;
+        self.peer(place).watch.sdown_since(now, after_ms, false)
+    }
+
     /// Whether the Sentinel at a place is subjectively down, by the first master's `down-after-milliseconds`.
     pub fn is_peer_down(&self, plan: &Plan, now: u64, place: usize) -> bool
         ensures { result ≡ is_peer_down plan.now self.now (clock now) place }
     {
-        self.peer(place)
-            .watch
-            .is_sdown(now, plan.settings(0).after_ms, false)
+        self.peer_down_since(plan, now, place).is_some()
     }
 
     /// Whether a master is objectively down: this Sentinel, as `own` says, and enough of the others found it down.
@@ -264,6 +274,7 @@ impl Core {
     pub fn set_current(&mut self, epoch: u64)
         ensures { self.new ≡ with_current self.old epoch }
     {
+        self.notices.see_epoch(self.kept.current, epoch);
         self.kept.current = epoch;
     }
 
@@ -321,6 +332,16 @@ impl Core {
         }
     }
 
+    /// Whether a data node may be told to clients.
+    pub fn is_announced(&self, m: u16, k: usize) -> bool
+        ensures { result ≡ (node_of self.now m k).announced }
+    {
+        match self.kept_node(m, k) {
+            Some(node) => node.announced,
+            None => true,
+        }
+    }
+
     /// A copy of what is kept of a data node; of what is kept of a new one at 0 where there is no such node.
     pub fn node(&self, m: u16, k: usize) -> Node
         ensures { result ≡ node_of self.now m k }
@@ -354,6 +375,7 @@ impl Core {
     {
         self.clock.turn(now);
         self.random = random;
+        self.notices.see_tilt(self.clock.holds());
     }
 
     /// The random number of the last tick.

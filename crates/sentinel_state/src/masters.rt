@@ -27,6 +27,14 @@ pub(crate) struct Master {
     pub(crate) ask_sent: Option<u64>,
     /// Whether it was objectively down at its last tick.
     pub(crate) odown: bool,
+    /// Since when it has been, for those who ask.
+    pub(crate) odown_since: Option<u64>,
+    /// When a client last asked that it hand over, until the campaign for that begins.
+    pub(crate) wish: Option<u64>,
+    /// The epoch of that campaign.
+    pub(crate) planned: Option<u64>,
+    /// Whether it refused to hand over in it.
+    pub(crate) refused: bool,
 }
 
 impl Model for Master {
@@ -44,6 +52,10 @@ impl Model for Master {
       nodes = master.nodes.items;
       ask_sent = master.ask_sent;
       odown = master.odown;
+      odown_since = master.odown_since;
+      wish = master.wish;
+      planned = master.planned;
+      refused = master.refused;
     } };
 
     ghost invariant = { λ master. (length master.nodes.items ≤ NODES_MAX) × HasFewPlaces master.failover };
@@ -67,6 +79,10 @@ impl Master {
             nodes: vec![in alloc; Node::new(now); nodes as usize]?,
             ask_sent: None,
             odown: false,
+            odown_since: None,
+            wish: None,
+            planned: None,
+            refused: false,
         })
     }
 }

@@ -5,14 +5,17 @@
 //! of all data nodes. `Node` is a data node, `Peer` another Sentinel, `FrameList` what an input has the Sentinel put
 //! out, in room that was made beforehand. Each call's contract is an equation with the definitions of `sentinel_rules`.
 
+mod contacts;
 mod frame_list;
 mod node;
 mod peers;
 mod plans;
 mod sending;
 
+pub(crate) use contacts::since_after;
 pub use frame_list::FrameList;
 pub use node::{Node, greet_soon, move_all};
 pub use peers::Peer;
 pub use plans::Plan;
+pub(crate) use plans::position_of;
 pub use sending::{Sending, ping_period, send_each_node, send_each_peer};

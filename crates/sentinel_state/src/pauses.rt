@@ -5,14 +5,14 @@ ghost use Rattle.ballot_law.specs.declared.rosters.TheConstants.{SENTINELS_MAX};
 ghost use Rattle.ballot_law.specs.Clocks.{clock};
 ghost use Rattle.failover_states.specs.declared.periods.TheConstants.{ELECTION_MS};
 ghost use Rattle.failover_states.specs.Calls.{choice_of};
-ghost use Rattle.sentinel_rules.specs.Profiles.{election_ms, turn_place, pause_of, is_held, is_down_for, is_peer_lost, is_leader_lost, may_begin, is_quiet, is_gone, is_choice_lost, patience, rest_after, rest_of, rested_at, with_pause};
+ghost use Rattle.sentinel_rules.specs.Profiles.{election_ms, turn_place, pause_of, is_held, is_down_for, is_peer_lost, is_leader_lost, may_begin, is_quiet, is_gone, is_choice_lost, handed_ms, patience, rest_after, rest_of, rested_at, with_pause};
 ghost use Rattle.sentinel_rules.specs.States.{failover_of, node_of};
 
 use crate::cores::{Core, is_idle};
 use crate::nodes::Plan;
 use ballot_law::clock_of;
 use failover_states::{ELECTION_MS, Row, SPREAD_MS};
-use sentinel_rules::{HOLD_MS, Profile, QUIET_MS};
+use sentinel_rules::{HANDED_MS, HOLD_MS, Profile, QUIET_MS};
 
 /// How long an election for a master may last.
 pub(crate) fn election_ms(plan: &Plan, m: u16) -> u64
@@ -33,7 +33,7 @@ fn is_held(from: Option<u64>, now: u64) -> bool
 }
 
 /// Whether something is down, and has been for so long.
-fn is_down_for(since: Option<u64>, pause: u64, now: u64) -> bool
+pub(crate) fn is_down_for(since: Option<u64>, pause: u64, now: u64) -> bool
     ensures { result ≡ is_down_for since pause now }
 {
     match since {
@@ -162,6 +162,20 @@ impl Core {
         }
     }
 
+    /// How long a failover waits for a choice: not for long where the master was told to hand over, and not at all
+    /// where it refused.
+    fn handed_ms(&self, m: u16, timeout: u64) -> u64
+        ensures { result ≡ handed_ms self.now m timeout }
+    {
+        if !self.is_handed(m) {
+            return timeout;
+        }
+        if self.has_refused(m) {
+            return 0;
+        }
+        HANDED_MS.min(timeout)
+    }
+
     /// The `failover-timeout` that the rows of the failover table go by.
     pub fn patience(&self, plan: &Plan, m: u16, now: u64) -> u64
         ensures { result ≡ patience plan.now self.now m (clock now) }
@@ -173,7 +187,7 @@ impl Core {
                 if is_idle(self.stage(m)) || self.is_choice_lost(plan, m, now) {
                     return 0;
                 }
-                timeout
+                self.handed_ms(m, timeout)
             }
         }
     }
@@ -191,6 +205,7 @@ impl Core {
     pub fn rest_after(&mut self, plan: &Plan, m: u16, now: u64, row: Option<Row>)
         ensures { self.new ≡ with_pause plan.now m (clock now) row self.old }
     {
+        self.note_row(m, row);
         if let Some(rest) = rest_of(plan.profile(), row, election_ms(plan, m)) {
             let at = self.rested_at(plan, m, now, rest);
             if let Some(master) = self.masters.get_mut(m as usize) {

@@ -2,10 +2,12 @@
 
 ghost use Rattle.std.specs.Prelude.{◌≡◌, ◌<◌, IsTrue, length};
 ghost use Rattle.ballot_law.specs.Clocks.{clock};
+ghost use Rattle.sentinel_rules.specs.Contacts.{since_after};
 ghost use Rattle.sentinel_rules.specs.News.{reported};
 ghost use Rattle.sentinel_rules.specs.States.{master_of, with_master};
 
 use crate::cores::Core;
+use crate::nodes::since_after;
 use ballot_law::Addr;
 
 impl Core {
@@ -33,12 +35,26 @@ impl Core {
         }
     }
 
-    /// Keeps whether a master is objectively down; nothing where there is no such master.
-    pub fn set_odown(&mut self, m: u16, odown: bool)
-        ensures { self.new ≡ with_master self.old m (record (master_of self.old m) { odown = odown }) }
+    /// Since when a master has been objectively down, as of its last tick.
+    pub fn odown_since(&self, m: u16) -> Option<u64>
+        ensures { result ≡ (master_of self.now m).odown_since }
+    {
+        match self.masters.get(m as usize) {
+            Some(master) => master.odown_since,
+            None => None,
+        }
+    }
+
+    /// Keeps whether a master is objectively down, and since when; nothing where there is no such master.
+    pub fn set_odown(&mut self, m: u16, now: u64, odown: bool)
+        ensures { self.new ≡ with_master self.old m (record (master_of self.old m) {
+          odown = odown;
+          odown_since = since_after odown (clock now) (master_of self.old m).odown_since;
+        }) }
     {
         if let Some(master) = self.masters.get_mut(m as usize) {
             master.odown = odown;
+            master.odown_since = since_after(odown, now, master.odown_since);
         }
     }
 }

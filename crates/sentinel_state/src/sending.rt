@@ -38,6 +38,7 @@ impl Core {
             ping_ms: ping_period(plan, m),
             card_place: card_at,
             is_busy: odown || self.is_failing_over(m),
+            heir: self.heir(m),
         }
     }
 

@@ -3,15 +3,17 @@
 ghost use Rattle.std.specs.Prelude.{◌≡◌};
 ghost use Rattle.ballot_law.specs.Ballots.{kept_of};
 ghost use Rattle.ballot_law.specs.Clocks.{clock};
+ghost use Rattle.ballot_law.specs.VotesHeard.{kept_at};
 ghost use Rattle.sentinel_rules.specs.News.{vote_heard};
 ghost use Rattle.sentinel_rules.specs.Profiles.{marked_at};
+ghost use Rattle.sentinel_rules.specs.States.{master_of};
 ghost use Rattle.sentinel_rules.specs.Ticks.{with_vote, pick_of, count_of};
 ghost use Rattle.sentinel_rules.specs.Votes.{book_of, with_book, mark_for, requested};
 
 use crate::cores::Core;
 use crate::nodes::Plan;
 use crate::pauses::election_ms;
-use ballot_law::{RunId, clock_of};
+use ballot_law::{HeardVote, RunId, clock_of};
 use failover_states::SPREAD_MS;
 use sentinel_rules::Profile;
 use vote_book::VoteBook;
@@ -61,6 +63,7 @@ impl Core {
         if candidate.is_same(&plan.me()) {
             return;
         }
+        self.notices.see_start(m, now);
         let at = self.mark_at(plan, m, now);
         if let Some(master) = self.masters.get_mut(m as usize) {
             master.failover.mark(at);
@@ -78,8 +81,10 @@ impl Core {
     fn keep_book(&mut self, m: u16, book: &VoteBook)
         ensures { self.new ≡ with_book self.old m book.now }
     {
+        let before = self.voted(m);
         self.set_vote(m, book.voted(), book.leader());
         self.set_current(book.current());
+        self.notices.see_vote(before, book.voted(), book.leader());
     }
 
     /// The candidate of the last vote for a master.
@@ -98,6 +103,16 @@ impl Core {
             && (voter as usize) < master.heard.voters()
         {
             master.heard.hear(voter, leader, epoch);
+        }
+    }
+
+    /// The last vote for a master that was heard of the Sentinel at a place.
+    pub fn heard_vote(&self, m: u16, voter: u16) -> Option<HeardVote>
+        ensures { result ≡ kept_at (master_of self.now m).heard voter }
+    {
+        match self.masters.get(m as usize) {
+            Some(master) => master.heard.vote_of(voter),
+            None => None,
         }
     }
 

@@ -61,8 +61,7 @@ fn profile_of(folder: &str) -> Profile {
 
 /// A story of these bytes, with the Sentinels of the folder, and how many these are.
 fn story_of(rt: &HostRuntime, folder: &str, text: Vec<u8>) -> Option<(Story, u16)> {
-    let mut story = Story::new(rt.alloc(), text).ok()?;
-    story.set_profile(profile_of(folder));
+    let mut story = Story::new_as(rt.alloc(), text, profile_of(folder)).ok()?;
     let mut sentinels: u16 = 0;
     for conf in CONFS {
         if let Some(file) = bytes_of(rt, folder, conf) {

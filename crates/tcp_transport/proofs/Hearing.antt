@@ -20,6 +20,7 @@ within target (events.Pinged node reply) h = tt
 within target (events.InfoRead node text) h = tt
 within target (events.HelloRead text) h = tt
 within target (events.Disconnected node) h = absurd h
+within target (events.Refused node) h = tt
 within target (events.Become priority offset link_down) h = absurd h
 within target (events.Handed message) h = absurd h
 
@@ -34,18 +35,18 @@ all_within_told target before told none h =
     let is : told ≡ h.0 = h.1 ∙ ap (λ (t : List Event). t ++ h.0) none in
     subst (AllByRecursion IsWithinEvent) (sym is) (all_within target h.0 h.2)
 
-pub hears_of : (before after : Option (List ℕ)) (s t : State) (piece : List ℕ) (events told : List Event) → Consumes before after piece
+pub heard : (before after : Option (List ℕ)) (s t : State) (piece : List ℕ) (events told : List Event) → Consumes before after piece
     → (more : List Event) × (told ≡ events ++ more) × AllByRecursion (IsHeardOn s.target) more
     × IsHeard s.target.node s.target.listens s.talk.asked (s.talk.held ++ piece) more t.talk.asked t.talk.held
     → Hears before after s t events told
-hears_of before after s t piece events told read h = record { bytes = piece; read = read; more = h.0; added = h.1; hears = h.3 }
+heard before after s t piece events told read h = record { bytes = piece; read = read; more = h.0; added = h.1; hears = h.3 }
 
-pub breaks_of : (before after : Option (List ℕ)) (s : State) (piece : List ℕ) (events told : List Event) (why : LinkFault) → Consumes before after piece
+pub broken : (before after : Option (List ℕ)) (s : State) (piece : List ℕ) (events told : List Event) (why : LinkFault) → Consumes before after piece
     → (more : List Event) × (told ≡ events ++ more) × AllByRecursion (IsHeardOn s.target) more
     × IsBroken s.target.node s.target.listens s.talk.asked (s.talk.held ++ piece) why more
     → Breaks before after s events told why
-breaks_of before after s piece events told why read h = record { bytes = piece; read = read; more = h.0; added = h.1; breaks = h.3 }
+broken before after s piece events told why read h = record { bytes = piece; read = read; more = h.0; added = h.1; breaks = h.3 }
 
 -- nothing was added
-pub hears_none : (target : Target) (before told : List Event) → told ≡ before → (more : List Event) × (told ≡ before ++ more) × AllByRecursion (IsHeardOn target) more
-hears_none target before told same = ([], same ∙ sym (append-nil before), tt)
+pub no_more : (target : Target) (before told : List Event) → told ≡ before → (more : List Event) × (told ≡ before ++ more) × AllByRecursion (IsHeardOn target) more
+no_more target before told same = ([], same ∙ sym (append-nil before), tt)

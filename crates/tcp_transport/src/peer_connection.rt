@@ -16,6 +16,7 @@ use mio::{Interest, Registry, Token};
 use std::alloc::Global;
 use std::io::ErrorKind;
 use std::net::{Ipv4Addr, Net, SocketAddr};
+use std::str::from_utf8;
 use std::sync::Wait;
 
 /// How many reads a connection makes before the next one has its turn.
@@ -80,6 +81,21 @@ fn hand_on_all<R: Wait>(rt: &R, near: &mut TransportEnd, mut events: Vec<Event>,
         let event = events.remove(0);
         near.hand_on(rt, event, now);
     }
+}
+
+/// Whether a node told that it refuses to hand over.
+fn is_stay(event: &Event) -> bool {
+    matches!(event, Event::Refused { .. })
+}
+
+/// The first error in what came, where it is text.
+fn error_in(piece: &[u8]) -> &str {
+    for line in from_utf8(piece).unwrap_or("").split("\r\n") {
+        if line.starts_with("-") {
+            return line;
+        }
+    }
+    "an error"
 }
 
 impl PeerConnection {
@@ -306,6 +322,14 @@ impl PeerConnection {
         }
     }
 
+    /// Notes that a master refuses to hand over, and why, by the piece that came.
+    fn note_stay<R: Log>(&self, rt: &R, piece: &[u8]) {
+        let addr = self.link.target().addr;
+        let (ip, port) = (Ipv4Addr::from(addr.ip), addr.port);
+        let why = error_in(piece);
+        warn!(rt; target: "tcp_wires::wire", "{ip}:{port} refuses to hand over: {why}");
+    }
+
     /// Reads one piece, and hands on what it tells: how long it is; the error says why none was taken, or that more
     /// comes than a node has to say: then the connection is shut for a second, so that what other nodes say isn't lost
     /// beside it.
@@ -323,6 +347,7 @@ impl PeerConnection {
         let mut events = Vec::new(self.alloc);
         let heard = hear(&mut self.link, stream, room, now, &mut events);
         let is_flooded = self.flow.add(now, events.len() as u64);
+        let is_staying = events.iter().any(|event| is_stay(event));
         hand_on_all(rt, near, events, now);
         if is_flooded {
             self.shut_until = now.saturating_add(FLOW_MS);
@@ -330,6 +355,9 @@ impl PeerConnection {
         }
         match heard {
             Ok(count) => {
+                if is_staying {
+                    self.note_stay(rt, &room[..count]);
+                }
                 self.note_piece(rt, &room[..count]);
                 Ok(count)
             }

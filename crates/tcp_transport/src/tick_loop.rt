@@ -128,7 +128,7 @@ impl TickLoop {
     ) -> TickLoop {
         TickLoop {
             far,
-            ticker: Ticker::new(alloc, member),
+            ticker: Ticker::new(member),
             pace: TickSchedule::new(now),
             stood_still: false,
             hellos: HelloNotes::new(now),
@@ -310,6 +310,9 @@ impl TickLoop {
         self.stood_still = false;
         self.has_ticked = true;
         self.pace.plan_tick(began, lot(rt, state));
+        if seat.is_switching() {
+            self.pace.hurry(began);
+        }
         self.hold(rt, state, member, seat);
         let now = state.run.clock.now(rt);
         self.pace.turn(now);
@@ -343,8 +346,8 @@ impl TickLoop {
         self.tick(rt, state, member, seat)
     }
 
-    /// Has the Sentinel take what its connections hear, and ticks each master 50 to 100 ms after its last tick, until
-    /// the threads end or the Sentinel is halted, by whichever thread.
+    /// Has the Sentinel take what its connections hear, and ticks each master 50 to 100 ms after its last tick, or 20
+    /// while a switch is under way, until the threads end or the Sentinel is halted, by whichever thread.
     pub fn run<J: Which, S: ConfStore, R: Wait + Clock + Log>(
         &mut self,
         rt: &R,

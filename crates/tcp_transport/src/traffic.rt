@@ -71,7 +71,7 @@ fn read<T: Read>(stream: &mut T, room: &mut [u8]) -> Result<usize, ErrorKind>
 
 /// Reads one piece, and adds what the values tell that are whole with it: how long it is. The error says why none was
 /// taken; what the values before a fault told was added.
-#[tactic(auto, using(crate::proofs::Hearing::hears_of, crate::proofs::Hearing::breaks_of, crate::proofs::Hearing::hears_none))]
+#[tactic(auto, using(crate::proofs::Hearing::heard, crate::proofs::Hearing::broken, crate::proofs::Hearing::no_more))]
 pub(crate) fn hear<T: Read>(
     link: &mut NodeLink,
     stream: &mut T,

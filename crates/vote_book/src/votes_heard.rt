@@ -112,6 +112,16 @@ impl Heard {
         self.votes.len()
     }
 
+    /// The vote that is kept of the voter at a place.
+    pub fn vote_of(&self, voter: u16) -> Option<HeardVote>
+        ensures { result ≡ kept_at self.now voter }
+    {
+        match self.votes.get(voter as usize) {
+            Some(vote) => *vote,
+            None => None,
+        }
+    }
+
     /// Hears that the voter at this place, one of those that there is room for, voted so. It replaces the vote that is
     /// kept of the voter only where its epoch is greater.
     pub fn hear(&mut self, voter: u16, candidate: RunId, epoch: u64)

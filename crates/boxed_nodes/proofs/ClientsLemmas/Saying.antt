@@ -5,7 +5,7 @@ use Rattle.std.specs.Prelude.{if◌then◌else◌}
 use Rattle.std.proofs.lemmas.List.Elements.{All-from_recursion}
 use Rattle.ballot_law.specs.declared.addresses.Addr.{Addr}
 use Rattle.ballot_law.specs.declared.events.Event.{Event}
-use Rattle.ballot_law.specs.declared.events.Event.TheVariants.{Tick, Command, Answered, Pinged, InfoRead, HelloRead, Disconnected, Become, Handed}
+use Rattle.ballot_law.specs.declared.events.Event.TheVariants.{Tick, Command, Answered, Pinged, InfoRead, HelloRead, Disconnected, Refused, Become, Handed}
 use Rattle.ballot_law.specs.declared.messages.Body.{Body}
 use Rattle.ballot_law.specs.declared.messages.Body.TheVariants.{AddressAsk, RoleAsk}
 use Rattle.ballot_law.specs.declared.messages.NodeName.{NodeName}
@@ -47,6 +47,7 @@ module _ (P : Output → Type 0) (group : Group) (name : NodeName)
   each_said search (Pinged node answer) = tt
   each_said search (InfoRead node text) = tt
   each_said search (HelloRead text) = tt
+  each_said search (Refused node) = tt
   each_said search (Disconnected node) = tt
   each_said search (Become priority offset link_down) = tt
 

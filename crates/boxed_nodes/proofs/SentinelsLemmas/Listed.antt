@@ -5,25 +5,29 @@ use Rattle.ballot_law.specs.declared.addresses.Addr.{Addr}
 use Rattle.ballot_law.specs.declared.addresses.RunId.{RunId}
 use Rattle.ballot_law.specs.declared.cards.Shown.{Shown}
 use Rattle.ballot_law.specs.declared.commands.Command.{Command}
-use Rattle.ballot_law.specs.declared.commands.Command.TheVariants.{Ping, IsMasterDownByAddr, GetMasterAddrByName, Masters, Master, Replicas, Sentinels, MyId, CkQuorum, FlushConfig, Subscribe}
+use Rattle.ballot_law.specs.declared.commands.Command.TheVariants.{Ping, IsMasterDownByAddr, GetMasterAddrByName, Masters, Master, Replicas, Sentinels, MyId, CkQuorum, FlushConfig, Subscribe, Failover}
 use Rattle.ballot_law.specs.declared.events.Event.{Event}
-use Rattle.ballot_law.specs.declared.events.Event.TheVariants.{Tick, Command as Commanded, Answered as AnswerCame, Pinged, InfoRead, HelloRead, Disconnected, Become, Handed}
+use Rattle.ballot_law.specs.declared.events.Event.TheVariants.{Tick, Command as Commanded, Answered as AnswerCame, Pinged, InfoRead, HelloRead, Disconnected, Refused, Become, Handed}
 use Rattle.ballot_law.specs.declared.messages.Body.{Body}
-use Rattle.ballot_law.specs.declared.messages.Body.TheVariants.{AddressAnswer}
+use Rattle.ballot_law.specs.declared.messages.Body.TheVariants.{AddressAnswer, PortReply}
 use Rattle.ballot_law.specs.declared.replies.Hello.{Hello}
 use Rattle.ballot_law.specs.Clocks.{clock}
 use Rattle.ballot_law.specs.Rosters.{Roster, master_named}
 use Rattle.ballot_law.proofs.RosterLemmas.{named_master}
 use Rattle.boxed_nodes.specs.Sendable.{IsOfMaster, IsListedIn, IsListed}
 use Rattle.sentinel_rules.specs.declared.frames.Frame.{Frame}
-use Rattle.sentinel_rules.specs.declared.frames.Frame.TheVariants.{PingTo, InfoTo, HelloTo, AskTo, PromoteTo, FollowTo, NoteOf}
+use Rattle.sentinel_rules.specs.declared.frames.Frame.TheVariants.{PingTo, InfoTo, HelloTo, AskTo, PromoteTo, HandOverTo, FollowTo, NoteOf}
 use Rattle.sentinel_rules.specs.Named.{IsNamed}
 use Rattle.sentinel_rules.proofs.NamedFrames.{hellos_name_masters}
-use Rattle.sentinel_rules.specs.Answers.{commanded, asked_of, master_with_card, named, about, address_of, numbers_from}
+use Rattle.sentinel_rules.specs.Answers.{commanded, asked_of, master_with_card, named, about, address_of, numbers_from, Answered, unchanged, has_heir, wished, asked_to_switch}
 use Rattle.sentinel_rules.specs.Parts.{output_of, shown_of, hello_of_master}
 use Rattle.sentinel_rules.specs.Plans.{Plan, roster_of, master_count}
-use Rattle.sentinel_rules.specs.States.{Core}
+use Rattle.sentinel_rules.specs.States.{Core, is_failing_over, is_tilted, is_wished}
 use Rattle.sentinel_rules.specs.Takes.{next, next_at, part_of, cleared}
+use Rattle.sentinel_rules.specs.Profiles.{by_profile}
+use Rattle.sentinel_rules.specs.declared.profiles.Profile.{Profile}
+use Rattle.sentinel_rules.specs.declared.profiles.Profile.TheVariants.{Strict, Redis}
+use Rattle.std.specs.Prelude.{◌||◌, if◌then◌else◌, Bool, true, false}
 
 -- Masters that are found by their names, and all of them
 
@@ -59,6 +63,25 @@ about_listed : (plan : Plan) (core : Core) (found : Option ℕ) (body : ℕ → 
 about_listed plan core None body each = tt
 about_listed plan core (Some m) body each = each m refl
 
+switch_listed : (roster : Roster) (m now : ℕ) (busy tilted heir : Bool) (core : Core) (going tilt ok none : List ℕ) →
+    IsListedIn roster (if busy then unchanged core (PortReply [] going)
+    else (if tilted then unchanged core (PortReply [] tilt)
+    else (if heir then record { core = wished m now core; body = PortReply [] ok } else unchanged core (PortReply [] none)))).body
+switch_listed roster m now true tilted heir core going tilt ok none = tt
+switch_listed roster m now false true heir core going tilt ok none = tt
+switch_listed roster m now false false true core going tilt ok none = tt
+switch_listed roster m now false false false core going tilt ok none = tt
+
+asked_switch_listed : (plan : Plan) (now : ℕ) (m : Option ℕ) (core : Core) → IsListedIn (roster_of plan) (asked_to_switch plan now m core).body
+asked_switch_listed plan now None core = tt
+asked_switch_listed plan now (Some m) core =
+    switch_listed (roster_of plan) m now (is_failing_over core m || is_wished core m now) (is_tilted core) (has_heir plan core m now) core _ _ _ _
+
+either_listed : (roster : Roster) (profile : Profile) (core : Core) (text : List ℕ) (redis : Answered) → IsListedIn roster redis.body →
+    IsListedIn roster (by_profile profile (unchanged core (PortReply [] text)) redis).body
+either_listed roster Strict core text redis f = tt
+either_listed roster Redis core text redis f = f
+
 answer_listed : (plan : Plan) (now : ℕ) (command : Command) (core : Core) → IsListedIn (roster_of plan) (commanded plan now command core).body
 answer_listed plan now Ping core = tt
 answer_listed plan now (IsMasterDownByAddr addr epoch candidate) core = asked_listed plan now addr epoch candidate (master_with_card core.kept.masters addr) core
@@ -69,6 +92,8 @@ answer_listed plan now (Replicas name) core = about_listed plan core (named plan
 answer_listed plan now (Sentinels name) core = about_listed plan core (named plan name) _ (λ m found. tt)
 answer_listed plan now MyId core = tt
 answer_listed plan now (CkQuorum name) core = about_listed plan core (named plan name) _ (λ m found. tt)
+answer_listed plan now (Failover name) core =
+    either_listed (roster_of plan) plan.profile core _ (asked_to_switch plan now (named plan name) core) (asked_switch_listed plan now (named plan name) core)
 answer_listed plan now FlushConfig core = tt
 answer_listed plan now Subscribe core = tt
 
@@ -80,6 +105,7 @@ frame_listed plan core (InfoTo target) named = tt
 frame_listed plan core (HelloTo target m) named =
     let hello = hello_of_master plan core m in shown_listed (roster_of plan) hello (master_named (roster_of plan) hello.master) refl
 frame_listed plan core (AskTo place m candidate) named = tt
+frame_listed plan core (HandOverTo target heir) named = tt
 frame_listed plan core (PromoteTo target) named = tt
 frame_listed plan core (FollowTo target m) named = tt
 frame_listed plan core (NoteOf m old) named = named
@@ -101,6 +127,7 @@ outputs_at plan now (InfoRead node text) core = frames_listed plan (part_of plan
     (hellos_name_masters plan now (InfoRead node text) core)
 outputs_at plan now (HelloRead text) core = frames_listed plan (part_of plan now (HelloRead text) core).core (part_of plan now (HelloRead text) core).frames
     (hellos_name_masters plan now (HelloRead text) core)
+outputs_at plan now (Refused node) core = tt
 outputs_at plan now (Disconnected node) core = tt
 outputs_at plan now (Become priority offset link_down) core = tt
 outputs_at plan now (Handed message) core = tt

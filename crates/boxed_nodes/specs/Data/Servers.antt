@@ -5,7 +5,8 @@ use Rattle.ballot_law.specs.declared.addresses.RunId.{RunId}
 use Rattle.ballot_law.specs.declared.events.Event.{Event}
 use Rattle.ballot_law.specs.declared.events.Event.TheVariants.{Become, Handed}
 use Rattle.ballot_law.specs.declared.messages.Body.{Body}
-use Rattle.ballot_law.specs.declared.messages.Body.TheVariants.{Ping, PingText, InfoAsk, InfoText, HelloText, ReplicaOf, RoleAsk, RoleText, Done}
+use Rattle.ballot_law.specs.declared.messages.Body.TheVariants.{Ping, PingText, InfoAsk, InfoText, HelloText, ReplicaOf, HandOver, RoleAsk, RoleText, Done}
+use Rattle.ballot_law.specs.declared.messages.Heir.{Heir}
 use Rattle.ballot_law.specs.declared.messages.NodeName.{NodeName}
 use Rattle.ballot_law.specs.declared.messages.NodeName.TheVariants.{SentinelAt}
 use Rattle.ballot_law.specs.declared.messages.Output.{Output}
@@ -52,8 +53,14 @@ can_follow (Some addr) = nat_lt 0 addr.port
 abbrev pub obeyed : Option Addr → Server → Server
 obeyed follows server = if can_follow follows then record server { follows = follows } else server
 
+-- a master that hands over follows its heir
+abbrev pub handed_to : Option Heir → Server → Server
+handed_to None server = server
+handed_to (Some heir) server = obeyed (Some heir.addr) server
+
 abbrev pub ordered : Body → Server → Server
 ordered (ReplicaOf follows) server = obeyed follows server
+ordered (HandOver heir) server = handed_to heir server
 ordered _ server = server
 
 abbrev pub changed_by : Event → Server → Server
@@ -91,12 +98,27 @@ abbrev pub answer_to_order : (is_followed : Bool) → Option Body
 answer_to_order true = Some Done
 answer_to_order false = None
 
+-- who hands over tells the heir that it is a master
+abbrev pub hand_over : Option Heir → Option Body
+hand_over None = Some Done
+hand_over (Some heir) = if can_follow (Some heir.addr) then Some (ReplicaOf None) else None
+
+abbrev pub told_by : NodeName → Option Heir → NodeName
+told_by sender None = sender
+told_by sender (Some heir) = heir.node
+
+-- who gets it
+abbrev pub listener : NodeName → Body → NodeName
+listener sender (HandOver heir) = told_by sender heir
+listener sender _ = sender
+
 -- the answer to a question or an order; none to anything else
 abbrev pub reply : Server → Body → Option Body
 reply server Ping = Some pong
 reply server InfoAsk = Some (InfoText (info_of server))
 reply server RoleAsk = Some (RoleText (role_of server.follows server.offset))
 reply server (ReplicaOf follows) = answer_to_order (can_follow follows)
+reply server (HandOver heir) = hand_over heir
 reply server _ = None
 
 abbrev pub send : (sender target : NodeName) → Body → Output
@@ -111,10 +133,10 @@ abbrev pub answered : (sender target : NodeName) → Option Body → List Output
 answered sender target None = []
 answered sender target (Some body) = send sender target body ∷ []
 
--- a published hello goes to every Sentinel, anything else is answered to its sender
+-- a published hello goes to every Sentinel, anything else is answered to its sender, but an order to hand over to the heir
 abbrev pub said_to : NodeName → (sentinels : ℕ) → Server → (sender : NodeName) → Body → Option Hello → List Output
 said_to name sentinels server sender body (Some hello) = to_each name hello sentinels
-said_to name sentinels server sender body None = answered name sender (reply server body)
+said_to name sentinels server sender body None = answered name (listener sender body) (reply server body)
 
 -- what the data node with this name says in a take
 abbrev pub said : NodeName → (sentinels : ℕ) → Server → Event → List Output

@@ -22,9 +22,10 @@ use std::marker::Model;
 
 /// A data node: a master or a replica of one.
 ///
-/// It answers PING by PONG, INFO and ROLE by what it keeps, takes the role that REPLICAOF gives it and answers OK, and
-/// passes a published hello to every Sentinel in the roster's order. Anything else changes nothing and is not answered,
-/// but that it may be told what priority, replication offset and link it gets. A stop keeps all of it.
+/// It answers PING by PONG, INFO and ROLE by what it keeps, takes the role that REPLICAOF gives it and answers OK,
+/// follows the heir to which FAILOVER has it hand over and tells that heir that it is a master, and passes a published
+/// hello to every Sentinel in the roster's order. Anything else changes nothing and is not answered, but that it may be
+/// told what priority, replication offset and link it gets. A stop keeps all of it.
 #[derive(Drop)]
 pub struct DataNode {
     number: u16,

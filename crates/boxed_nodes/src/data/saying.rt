@@ -3,7 +3,7 @@
 ghost use Rattle.std.specs.Prelude.{◌≡◌, ◌≤◌};
 ghost use Rattle.ballot_law.specs.Messages.{published};
 ghost use Rattle.sentinel_outbox.specs.Outboxes.{Fits, IsOtherNode};
-ghost use Rattle.boxed_nodes.specs.Data.Servers.{to_each, answered, reply, said_to, said};
+ghost use Rattle.boxed_nodes.specs.Data.Servers.{to_each, answered, listener, reply, said_to, said};
 
 use crate::data::server::Server;
 use ballot_law::{Body, Event, Hello, Message, NodeName};
@@ -23,6 +23,7 @@ fn published(body: &Body) -> Option<Hello>
         | Body::InfoText(_)
         | Body::HelloText(_)
         | Body::ReplicaOf(_)
+        | Body::HandOver(_)
         | Body::AddressAsk(_)
         | Body::AddressAnswer(_)
         | Body::PortReply { .. }
@@ -48,17 +49,27 @@ fn pass_on(name: NodeName, hello: &Hello, sentinels: u16, outbox: &mut Outbox)
     }
 }
 
-/// Sends the answer to a message to its sender, where there is one.
+/// Who gets what is said to a message: its sender, but an order to hand over has its heir told.
+fn listener(message: &Message) -> NodeName
+    ensures { result ≡ listener message.now.sender message.now.body }
+{
+    match &message.body {
+        Body::HandOver(Some(heir)) => heir.node,
+        _ => message.sender,
+    }
+}
+
+/// Sends the answer to a message, where there is one.
 fn answer(name: NodeName, server: &Server, message: &Message, outbox: &mut Outbox)
     requires sender { IsOtherNode name }
     requires fits { Fits outbox.old (record { outputs = 1; text = 0; shown = 0 }) }
-    ensures held { outbox.new.held ≡ answered name message.now.sender (reply server.now message.now.body) }
+    ensures held { outbox.new.held ≡ answered name (listener message.now.sender message.now.body) (reply server.now message.now.body) }
     ensures shown { outbox.new.shown ≡ outbox.old.shown }
 {
     if let Some(body) = server.reply(&message.body) {
         let _held = outbox.hold(Message {
             sender: name,
-            target: message.sender,
+            target: listener(message),
             body,
         });
     }
@@ -102,6 +113,7 @@ pub(crate) fn say(
         | Event::InfoRead { .. }
         | Event::HelloRead { .. }
         | Event::Disconnected { .. }
+        | Event::Refused { .. }
         | Event::Become { .. } => {}
     }
 }

@@ -3,9 +3,9 @@
 ghost use Rattle.std.specs.Prelude.{◌≡◌, IfSome, IsTrue};
 ghost use Rattle.ballot_law.specs.Hellos.{IsAddr};
 ghost use Rattle.boxed_nodes.specs.Sendable.{IsTakeable};
-ghost use Rattle.boxed_nodes.specs.Data.Servers.{IsServer, first_server, can_follow, obeyed, changed_by, info_of, role_of, reply};
+ghost use Rattle.boxed_nodes.specs.Data.Servers.{IsServer, first_server, can_follow, obeyed, changed_by, info_of, role_of, hand_over, reply};
 
-use ballot_law::{Addr, Body, DataRole, Event, Info, Role, RunId, ShortText};
+use ballot_law::{Addr, Body, DataRole, Event, Heir, Info, Role, RunId, ShortText};
 use std::marker::Model;
 
 /// The priority with which a data node begins.
@@ -51,6 +51,17 @@ fn can_follow(follows: Option<Addr>) -> bool
     match follows {
         None => true,
         Some(addr) => 0 < addr.port,
+    }
+}
+
+/// What an order to hand over has its master say: to the heir that it is a master, where it can be followed.
+fn hand_over(heir: Option<Heir>) -> Option<Body>
+    ensures { result ≡ hand_over heir }
+{
+    match heir {
+        None => Some(Body::Done),
+        Some(heir) if can_follow(Some(heir.addr)) => Some(Body::ReplicaOf(None)),
+        Some(_) => None,
     }
 }
 
@@ -126,6 +137,7 @@ impl Server {
             Body::RoleAsk => Some(Body::RoleText(self.role())),
             Body::ReplicaOf(follows) if can_follow(*follows) => Some(Body::Done),
             Body::ReplicaOf(_) => None,
+            Body::HandOver(heir) => hand_over(*heir),
             Body::Ask { .. }
             | Body::Answer { .. }
             | Body::PingText { .. }
@@ -165,8 +177,10 @@ impl Server {
                 self.link_down = *link_down;
             }
             Event::Handed(message) => {
-                if let Body::ReplicaOf(follows) = message.body {
-                    self.obey(follows);
+                match message.body {
+                    Body::ReplicaOf(follows) => self.obey(follows),
+                    Body::HandOver(Some(heir)) => self.obey(Some(heir.addr)),
+                    _ => {}
                 }
             }
             _ => {}

@@ -15,7 +15,9 @@ use Rattle.ballot_law.specs.declared.steps.Step.TheVariants.{Take, Deliver, Stor
 use Rattle.ballot_law.specs.Cuts.{cut_at, lines}
 use Rattle.ballot_law.specs.Results.{◌>>=◌}
 use Rattle.ballot_law.specs.Words.{number_on, number_within}
-use Rattle.resp2.specs.Commands.{bulks, command_of}
+use Rattle.resp2.specs.Commands.{bulks, command_of, redis_command_of}
+use Rattle.sentinel_rules.specs.declared.profiles.Profile.{Profile}
+use Rattle.sentinel_rules.specs.Profiles.{by_profile}
 use Rattle.resp2.specs.Framing.Frame.{items}
 use Rattle.fault_world.specs.declared.scenarios.faults.ScenarioFault.{ScenarioFault}
 use Rattle.fault_world.specs.declared.scenarios.faults.ScenarioKind.{ScenarioKind}
@@ -179,34 +181,34 @@ row_line r args = if are_words r.kinds args then with_numbers (have_numbers r.ki
 abbrev pub command_steps : NodeName → ℕ → PortCommand → List Step
 command_steps node now command = take node now (Command (PortAt 0) command) ∷ []
 
--- the command of a Sentinel's port that these words are
-abbrev pub command_of_words : List (List ℕ) → Option PortCommand
-command_of_words words = result_ok (command_of (items (bulks words)))
+-- the command of a Sentinel's port that these words are: ports of Redis's profile know one more
+abbrev pub command_of_words : Profile → List (List ℕ) → Option PortCommand
+command_of_words profile words = result_ok (by_profile profile (command_of (items (bulks words))) (redis_command_of (items (bulks words))))
 
-abbrev pub command_line : List (List ℕ) → Result (List Step) ScenarioKind
-command_line (n ∷ now ∷ words) =
-    if is_node n then elim (command_of_words words) as (λ _. Result (List Step) ScenarioKind) [
+abbrev pub command_line : Profile → List (List ℕ) → Result (List Step) ScenarioKind
+command_line profile (n ∷ now ∷ words) =
+    if is_node n then elim (command_of_words profile words) as (λ _. Result (List Step) ScenarioKind) [
       | Some command ↦ with_numbers (has_number Node n && has_number any_number now) (command_steps (node n) (number now) command)
       | None ↦ Err WrongWords
     ] else Err WrongWords
-command_line _ = Err WrongWords
+command_line profile _ = Err WrongWords
 
 -- the line whose first word is this name
 abbrev pub named : List Row → List ℕ → List (List ℕ) → Result (List Step) ScenarioKind
 named [] name args = Err UnknownStep
 named (r ∷ rows) name args = if bytes_eq name r.name then row_line r args else named rows name args
 
-abbrev pub line_of_words : List (List ℕ) → Result (List Step) ScenarioKind
-line_of_words [] = Ok []
-line_of_words (name ∷ args) = if bytes_eq name (codes "command") then command_line args else named table name args
+abbrev pub line_of_words : Profile → List (List ℕ) → Result (List Step) ScenarioKind
+line_of_words profile [] = Ok []
+line_of_words profile (name ∷ args) = if bytes_eq name (codes "command") then command_line profile args else named table name args
 
 -- an empty line, and one that begins with `#`, tells nothing
 abbrev pub is_skipped : List ℕ → Bool
 is_skipped [] = true
 is_skipped (b ∷ bs) = b == 35
 
-abbrev pub line_of : List ℕ → Result (List Step) ScenarioKind
-line_of line = if is_skipped line then Ok [] else line_of_words (words line)
+abbrev pub line_of : Profile → List ℕ → Result (List Step) ScenarioKind
+line_of profile line = if is_skipped line then Ok [] else line_of_words profile (words line)
 
 -- ---- the whole scenario
 
@@ -227,9 +229,10 @@ abbrev pub behind : List Step → Result (List Step) ScenarioFault → Result (L
 behind steps rest = rest >>= λ more. Ok (steps ++ more)
 
 -- the steps of these lines, of which the first has this number, or the first faulty one
-abbrev pub steps_from : ℕ → List (List ℕ) → Result (List Step) ScenarioFault
-steps_from n [] = Ok []
-steps_from n (line ∷ lines) = at_line n (line_of line) >>= λ steps. behind steps (steps_from (n + 1) lines)
+abbrev pub steps_from : Profile → ℕ → List (List ℕ) → Result (List Step) ScenarioFault
+steps_from profile n [] = Ok []
+steps_from profile n (line ∷ lines) = at_line n (line_of profile line) >>= λ steps. behind steps (steps_from profile (n + 1) lines)
 
-abbrev pub scenario : List ℕ → Result (List Step) ScenarioFault
-scenario text = if is_utf8 text then steps_from 1 (lines text) else Err (fault_at 0 NotUtf8)
+-- the steps of a scenario that Sentinels of this profile play
+abbrev pub scenario : Profile → List ℕ → Result (List Step) ScenarioFault
+scenario profile text = if is_utf8 text then steps_from profile 1 (lines text) else Err (fault_at 0 NotUtf8)

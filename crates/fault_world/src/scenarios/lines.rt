@@ -1,9 +1,10 @@
 //! What a line tells, by its first word.
 
 ghost use Rattle.std.specs.Prelude.{◌≡◌, ◌⊎◌, Err, Some, None, IfOk, MatchResult};
-ghost use Rattle.resp2.specs.Commands.{bulks};
+ghost use Rattle.resp2.specs.Commands.{bulks, command_of, redis_command_of};
+ghost use Rattle.sentinel_rules.specs.Profiles.{by_profile};
 ghost use Rattle.ballot_law.specs.Limits.{IsWithin};
-ghost use Rattle.resp2.specs.Framing.Frame.{frames_view};
+ghost use Rattle.resp2.specs.Framing.Frame.{frames_view, view};
 ghost use Rattle.fault_world.specs.declared.scenarios.faults.ScenarioKind.TheVariants.{WrongWords, NoMemory};
 ghost use Rattle.fault_world.specs.Scenarios.Scenarios.{tick_row, deliver_row, set_row, store_row, release_row, done_row, stop_row, start_row, answer_row, stored, row_line, table, named, command_of_words, command_line, line_of};
 ghost use Rattle.fault_world.specs.Scenarios.Read.{words_left, told_line};
@@ -16,7 +17,8 @@ use crate::scenarios::faults::ScenarioKind;
 use crate::scenarios::line_words::{four_words, next_word, one_word, two_words};
 use crate::scenarios::told::Told;
 use ballot_law::{Command, Event, Input, KeptText, NodeName, Step, Text};
-use resp2::{Value, command_of};
+use resp2::{CommandFault, Value, command_of, redis_command_of};
+use sentinel_rules::Profile;
 use std::alloc::Global;
 
 /// The greatest amount that `set` gives: what a data node's INFO shows is no greater.
@@ -168,23 +170,38 @@ fn bulk_strings(alloc: Global, words: Option<&[u8]>) -> Result<Vec<Value>, Scena
     Ok(values)
 }
 
-/// The command of a port that these words are.
-fn port_command(alloc: Global, words: Option<&[u8]>) -> Result<Command, ScenarioKind>
+/// The command that a value spells at a port of this profile.
+fn asked_of(value: &Value, profile: Profile) -> Result<Command, CommandFault>
     ensures within { IfOk result IsWithin }
-    ensures command { MatchResult result (λ command. command_of_words (words_left words.entry) ≡ Some command)
+    ensures command { result ≡ by_profile profile (command_of (view value.now)) (redis_command_of (view value.now)) }
+{
+    match profile {
+        Profile::Strict => command_of(value),
+        Profile::Redis => redis_command_of(value),
+    }
+}
+
+/// The command of a port of this profile that these words are.
+fn port_command(
+    alloc: Global,
+    words: Option<&[u8]>,
+    profile: Profile,
+) -> Result<Command, ScenarioKind>
+    ensures within { IfOk result IsWithin }
+    ensures command { MatchResult result (λ command. command_of_words profile (words_left words.entry) ≡ Some command)
         (λ kind. (kind ≡ NoMemory)
-        ⊎ ((kind ≡ WrongWords) × (command_of_words (words_left words.entry) ≡ None))) }
+        ⊎ ((kind ≡ WrongWords) × (command_of_words profile (words_left words.entry) ≡ None))) }
 {
     let values = bulk_strings(alloc, words)?;
-    match command_of(&Value::Items(values)) {
+    match asked_of(&Value::Items(values), profile) {
         Ok(command) => Ok(command),
         Err(_) => Err(ScenarioKind::WrongWords),
     }
 }
 
 /// `command <node> <now> <word>..`.
-fn command(alloc: Global, args: Option<&[u8]>) -> Result<Told, ScenarioKind>
-    ensures line { (result ≡ Err NoMemory) ⊎ (told_line result ≡ command_line (words_left args.entry)) }
+fn command(alloc: Global, args: Option<&[u8]>, profile: Profile) -> Result<Told, ScenarioKind>
+    ensures line { (result ≡ Err NoMemory) ⊎ (told_line result ≡ command_line profile (words_left args.entry)) }
     ensures within { IfOk result IsWithinTold }
 {
     let Some((node, more)) = next_word(args) else {
@@ -194,7 +211,7 @@ fn command(alloc: Global, args: Option<&[u8]>) -> Result<Told, ScenarioKind>
         return Err(ScenarioKind::WrongWords);
     };
     check_node(node)?;
-    let command = port_command(alloc, words)?;
+    let command = port_command(alloc, words, profile)?;
     let node = node_word(node)?;
     let now = number_word(now, u64::MAX)?;
     let sender = NodeName::PortAt(0);
@@ -233,9 +250,9 @@ fn named(name: &[u8], args: Option<&[u8]>) -> Result<Told, ScenarioKind>
     }
 }
 
-/// What a line tells.
-pub fn line_of(alloc: Global, line: &[u8]) -> Result<Told, ScenarioKind>
-    ensures line { (result ≡ Err NoMemory) ⊎ (told_line result ≡ line_of line.now) }
+/// What a line tells that Sentinels of this profile play.
+pub fn line_of(alloc: Global, line: &[u8], profile: Profile) -> Result<Told, ScenarioKind>
+    ensures line { (result ≡ Err NoMemory) ⊎ (told_line result ≡ line_of profile line.now) }
     ensures within { IfOk result IsWithinTold }
 {
     match line {
@@ -247,7 +264,7 @@ pub fn line_of(alloc: Global, line: &[u8]) -> Result<Told, ScenarioKind>
         return Ok(Told::Nothing);
     };
     if name == b"command".as_slice() {
-        command(alloc, args)
+        command(alloc, args, profile)
     } else {
         named(name, args)
     }

@@ -10,6 +10,7 @@ use crate::scenarios::faults::{ScenarioFault, ScenarioKind};
 use crate::scenarios::lines::line_of;
 use crate::scenarios::told::Told;
 use ballot_law::Step;
+use sentinel_rules::Profile;
 use std::alloc::Global;
 use std::str;
 use tokens::split_line;
@@ -57,17 +58,17 @@ fn add(steps: &mut Vec<Step>, told: Told) -> Result<(), ScenarioFault>
 }
 
 /// The steps of the lines of a text.
-fn steps_of_lines(alloc: Global, text: &[u8]) -> Result<Vec<Step>, ScenarioFault>
+fn steps_of_lines(alloc: Global, text: &[u8], profile: Profile) -> Result<Vec<Step>, ScenarioFault>
     ensures within { IfOk result (λ steps. All IsWithinStep steps.items) }
-    ensures steps { IfOk result (λ steps. steps_from 1 (lines text.now) ≡ Ok steps.items) }
-    ensures fault { IfErr result (λ fault. (fault ≡ no_memory) ⊎ (steps_from 1 (lines text.now) ≡ Err fault)) }
+    ensures steps { IfOk result (λ steps. steps_from profile 1 (lines text.now) ≡ Ok steps.items) }
+    ensures fault { IfErr result (λ fault. (fault ≡ no_memory) ⊎ (steps_from profile 1 (lines text.now) ≡ Err fault)) }
 {
     let mut steps = Vec::new(alloc);
     let mut number: u64 = 1;
     let mut rest = text;
     while !rest.is_empty() {
         let (line, behind) = split_line(rest);
-        match line_of(alloc, line) {
+        match line_of(alloc, line, profile) {
             Ok(told) => add(&mut steps, told)?,
             Err(kind) => return Err(fault_at(number, kind)),
         }
@@ -87,8 +88,22 @@ fn steps_of_lines(alloc: Global, text: &[u8]) -> Result<Vec<Step>, ScenarioFault
 /// The numbers in the steps are within the limits of a group: the epoch of a command, and what a `set` gives.
 pub fn read_scenario(alloc: Global, text: &[u8]) -> Result<Vec<Step>, ScenarioFault>
     ensures within { IfOk result (λ steps. All IsWithinStep steps.items) }
-    ensures steps { IfOk result (λ steps. scenario text.now ≡ Ok steps.items) }
-    ensures fault { IfErr result (λ fault. (fault ≡ no_memory) ⊎ (scenario text.now ≡ Err fault)) }
+    ensures steps { IfOk result (λ steps. scenario Profile.Strict text.now ≡ Ok steps.items) }
+    ensures fault { IfErr result (λ fault. (fault ≡ no_memory) ⊎ (scenario Profile.Strict text.now ≡ Err fault)) }
+{
+    read_scenario_as(alloc, text, Profile::Strict)
+}
+
+/// The steps of a scenario that Sentinels of this profile play, as `read_scenario` has them: in that of Redis a
+/// `command` may be SENTINEL FAILOVER, too.
+pub fn read_scenario_as(
+    alloc: Global,
+    text: &[u8],
+    profile: Profile,
+) -> Result<Vec<Step>, ScenarioFault>
+    ensures within { IfOk result (λ steps. All IsWithinStep steps.items) }
+    ensures steps { IfOk result (λ steps. scenario profile text.now ≡ Ok steps.items) }
+    ensures fault { IfErr result (λ fault. (fault ≡ no_memory) ⊎ (scenario profile text.now ≡ Err fault)) }
 {
     if let Err(_) = str::from_utf8(text) {
         return Err(ScenarioFault {
@@ -96,5 +111,5 @@ pub fn read_scenario(alloc: Global, text: &[u8]) -> Result<Vec<Step>, ScenarioFa
             kind: ScenarioKind::NotUtf8,
         });
     }
-    steps_of_lines(alloc, text)
+    steps_of_lines(alloc, text, profile)
 }

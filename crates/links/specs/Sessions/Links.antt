@@ -4,9 +4,9 @@ use Rattle.ballot_law.specs.declared.addresses.Addr.{Addr}
 use Rattle.ballot_law.specs.declared.addresses.RunId.{RunId}
 use Rattle.ballot_law.specs.declared.cards.TheConstants.{MAX_EPOCH}
 use Rattle.ballot_law.specs.declared.events.Event.{Event}
-use Rattle.ballot_law.specs.declared.events.Event.TheVariants.{Answered, Pinged, InfoRead, HelloRead}
+use Rattle.ballot_law.specs.declared.events.Event.TheVariants.{Answered, Pinged, InfoRead, HelloRead, Refused}
 use Rattle.ballot_law.specs.declared.messages.Body.{Body}
-use Rattle.ballot_law.specs.declared.messages.Body.TheVariants.{Ask, Ping, InfoAsk}
+use Rattle.ballot_law.specs.declared.messages.Body.TheVariants.{Ask, Ping, InfoAsk, HandOver}
 use Rattle.ballot_law.specs.declared.messages.NodeName.{NodeName}
 use Rattle.ballot_law.specs.Orders.{same_id}
 use Rattle.ballot_law.specs.PingReplies.{reply_of}
@@ -29,6 +29,7 @@ abbrev pub question_of : Body → Question
 question_of Ping = asks.Ping
 question_of InfoAsk = asks.Info
 question_of (Ask master addr epoch candidate) = asks.Ask master addr
+question_of (HandOver heir) = asks.HandOver
 question_of _ = asks.Order
 
 -- ---- the answer to the question whether a master is down
@@ -98,6 +99,11 @@ id_heard id (bulk text) = named id (run_id text)
 id_heard id (fault text) = Ok None
 id_heard id _ = Err Strange
 
+-- an error tells that the node refuses to hand over
+abbrev pub hand_over_heard : NodeName → Frame → Option Event
+hand_over_heard node (fault text) = Some (Refused node)
+hand_over_heard node _ = None
+
 abbrev pub is_word : List ℕ → Frame → Bool
 is_word word (bulk bytes) = bytes_eq bytes word
 is_word word _ = false
@@ -130,6 +136,7 @@ abbrev pub heard_of : NodeName → Question → Frame → Result (Option Event) 
 heard_of node asks.Ping f = ping_heard node f
 heard_of node asks.Info f = info_heard node f
 heard_of node (asks.Ask master addr) f = ask_heard node master addr f
+heard_of node asks.HandOver f = Ok (hand_over_heard node f)
 heard_of node asks.Order f = Ok None
 heard_of node (asks.Identity id) f = id_heard id f
 heard_of node asks.Hello f = hello_heard f

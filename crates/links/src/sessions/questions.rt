@@ -14,6 +14,8 @@ pub enum Question {
     Info,
     /// The answer to the question whether this master at this address is down.
     Ask { master: u16, addr: Addr },
+    /// The answer to an order to hand over, which tells something where it is an error.
+    HandOver,
     /// An answer that tells nothing, as that to PUBLISH or REPLICAOF.
     Order,
     /// The answer to SENTINEL MYID of a Sentinel that is to have this run id.
@@ -33,6 +35,7 @@ pub fn question_of(body: &Body) -> Question
             master: *master,
             addr: *addr,
         },
+        Body::HandOver(_) => Question::HandOver,
         _ => Question::Order,
     }
 }

@@ -3,7 +3,7 @@
 ghost use Rattle.std.specs.Prelude.{◌≡◌, map};
 ghost use Rattle.resp2.specs.Commands as commands;
 ghost use Rattle.resp2.specs.Framing.Frame.{view, frames_view};
-ghost use Rattle.links.specs.Sessions.Links.{is_down, epoch_of, leader_of, vote_of, votes_of, ping_heard, info_heard, ask_heard, named, id_heard, heard_of, is_word, is_confirmed, begins_message, hello_of_list, hello_heard};
+ghost use Rattle.links.specs.Sessions.Links.{is_down, epoch_of, leader_of, vote_of, votes_of, ping_heard, info_heard, ask_heard, hand_over_heard, named, id_heard, heard_of, is_word, is_confirmed, begins_message, hello_of_list, hello_heard};
 
 use crate::sessions::fault::LinkFault;
 use crate::sessions::questions::Question;
@@ -167,6 +167,16 @@ fn id_heard(id: RunId, value: &Value) -> Result<Option<Event>, LinkFault>
     }
 }
 
+/// What the answer to an order to hand over tells: that the node refuses, where it is an error.
+fn hand_over_heard(node: NodeName, value: &Value) -> Option<Event>
+    ensures { result ≡ hand_over_heard node (view value.now) }
+{
+    match value {
+        Value::Fault(_) => Some(Event::Refused { node }),
+        _ => None,
+    }
+}
+
 /// Whether the value is a bulk string of this word.
 fn is_word(value: &Value, word: &[u8]) -> bool
     ensures { result ≡ is_word word.now (view value.now) }
@@ -236,6 +246,7 @@ pub(crate) fn heard_of(
         Question::Ping => ping_heard(node, &value),
         Question::Info => info_heard(node, value),
         Question::Ask { master, addr } => ask_heard(node, master, addr, &value),
+        Question::HandOver => Ok(hand_over_heard(node, &value)),
         Question::Order => Ok(None),
         Question::Identity { id } => id_heard(id, &value),
         Question::Hello => hello_heard(value),

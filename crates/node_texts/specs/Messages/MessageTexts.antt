@@ -5,9 +5,11 @@ use Rattle.ballot_law.specs.declared.addresses.RunId.{RunId}
 use Rattle.ballot_law.specs.declared.cards.Shown.{Shown}
 use Rattle.ballot_law.specs.declared.cards.TheConstants.{MAX_EPOCH}
 use Rattle.ballot_law.specs.declared.messages.Body.{Body}
-use Rattle.ballot_law.specs.declared.messages.Body.TheVariants.{Ask, Answer, Ping, PingText, InfoAsk, InfoText, Publish, HelloText, ReplicaOf, AddressAsk, AddressAnswer, PortReply, RoleAsk, RoleText, Done}
+use Rattle.ballot_law.specs.declared.messages.Body.TheVariants.{Ask, Answer, Ping, PingText, InfoAsk, InfoText, Publish, HelloText, ReplicaOf, HandOver, AddressAsk, AddressAnswer, PortReply, RoleAsk, RoleText, Done}
+use Rattle.ballot_law.specs.declared.messages.Heir.{Heir}
 use Rattle.ballot_law.specs.declared.messages.Output.{Output}
 use Rattle.ballot_law.specs.declared.messages.Output.TheVariants.{Send, Tell}
+use Rattle.ballot_law.specs.declared.periods.TheConstants.{HAND_OVER_MS}
 use Rattle.ballot_law.specs.Hellos.{hello_text, IsHello}
 use Rattle.ballot_law.specs.Words.{ip_text}
 use Rattle.node_texts.specs.Infos.{info_text, IsInfo}
@@ -44,6 +46,12 @@ abbrev pub replica_of_frame : Option Addr → Frame
 replica_of_frame None = words_frame (codes "REPLICAOF" ∷ codes "NO" ∷ codes "ONE" ∷ [])
 replica_of_frame (Some addr) = words_frame (codes "REPLICAOF" ∷ ip_text addr.ip ∷ decimal addr.port ∷ [])
 
+-- a master is to hand over to its replica at an address, or to stay the master
+abbrev pub hand_over_frame : Option Heir → Frame
+hand_over_frame None = words_frame (codes "FAILOVER" ∷ codes "ABORT" ∷ [])
+hand_over_frame (Some heir) =
+    words_frame (codes "FAILOVER" ∷ codes "TO" ∷ ip_text heir.addr.ip ∷ decimal heir.addr.port ∷ codes "TIMEOUT" ∷ decimal HAND_OVER_MS ∷ [])
+
 -- the address of a configuration; the null array where no master has the name
 abbrev pub address_frame : Option Shown → Frame
 address_frame None = null_items
@@ -60,6 +68,7 @@ body_frame (InfoText info) = bulk (info_text info)
 body_frame (Publish hello) = words_frame (codes "PUBLISH" ∷ hello_channel ∷ hello_text hello ∷ [])
 body_frame (HelloText hello) = words_frame (codes "message" ∷ hello_channel ∷ hello_text hello ∷ [])
 body_frame (ReplicaOf addr) = replica_of_frame addr
+body_frame (HandOver heir) = hand_over_frame heir
 body_frame (AddressAsk name) = words_frame (codes "SENTINEL" ∷ codes "GET-MASTER-ADDR-BY-NAME" ∷ name ∷ [])
 body_frame (AddressAnswer shown) = address_frame shown
 body_frame (PortReply shown text) = bulk text

@@ -4,7 +4,9 @@ ghost use Rattle.std.specs.Prelude.{◌≡◌, ◌++◌, OnOk, OnErr};
 ghost use Rattle.resp2.specs.Framing.Writing.{Begins};
 ghost use Rattle.node_texts.specs.Messages.MessageTexts.{message_bytes, IsWritable};
 
-use crate::messages::commands::{push_ask, push_hello, push_replica_of, push_words};
+use crate::messages::commands::{
+    push_ask, push_hand_over, push_hello, push_replica_of, push_words,
+};
 use crate::messages::replies::{push_answer, push_info, push_pong, push_role, push_shown};
 use ballot_law::{Body, NoMemory};
 use resp2::{ByteSink, push_kind};
@@ -36,6 +38,7 @@ pub fn push_body<S: ByteSink>(sink: &mut S, alloc: Global, body: &Body) -> Resul
         Body::Publish(hello) => push_hello(sink, alloc, b"PUBLISH", hello),
         Body::HelloText(hello) => push_hello(sink, alloc, b"message", hello),
         Body::ReplicaOf(addr) => push_replica_of(sink, *addr),
+        Body::HandOver(heir) => push_hand_over(sink, *heir),
         Body::AddressAsk(name) => {
             push_words(
                 sink,

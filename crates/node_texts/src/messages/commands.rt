@@ -5,11 +5,11 @@ ghost use Rattle.ballot_law.specs.Hellos.{IsHello, hello_text};
 ghost use Rattle.resp2.specs.Commands.{ask_frame, candidate_text};
 ghost use Rattle.resp2.specs.Framing.Frame.{spelling};
 ghost use Rattle.resp2.specs.Framing.Writing.{Begins};
-ghost use Rattle.node_texts.specs.Messages.MessageTexts.{words_frame, hello_channel, replica_of_frame};
+ghost use Rattle.node_texts.specs.Messages.MessageTexts.{words_frame, hello_channel, replica_of_frame, hand_over_frame};
 
 use crate::hellos::write_hello;
 use arrayvec::ArrayVec;
-use ballot_law::{Addr, Hello, NoMemory, RunId};
+use ballot_law::{Addr, HAND_OVER_MS, Heir, Hello, NoMemory, RunId};
 use itoa::Buffer;
 use resp2::{ByteSink, OutText, push_bulk, push_size};
 use std::alloc::Global;
@@ -106,6 +106,30 @@ pub fn push_replica_of<S: ByteSink>(sink: &mut S, addr: Option<Addr>) -> Result<
             b"REPLICAOF",
             ip_text(addr.ip).as_slice(),
             port.format(addr.port).as_bytes(),
+        ],
+    )
+}
+
+/// Adds the order to hand over to a replica, or to stay the master.
+pub fn push_hand_over<S: ByteSink>(sink: &mut S, heir: Option<Heir>) -> Result<(), NoMemory>
+    ensures ok { OnOk result
+        (S.bytes sink.new ≡ S.bytes sink.old ++ spelling (hand_over_frame heir)) }
+    ensures err { OnErr result (Begins (S.bytes sink.old) (S.bytes sink.new)) }
+{
+    let Some(heir) = heir else {
+        return push_words(sink, &[b"FAILOVER", b"ABORT"]);
+    };
+    let mut port = Buffer::new();
+    let mut timeout = Buffer::new();
+    push_words(
+        sink,
+        &[
+            b"FAILOVER",
+            b"TO",
+            ip_text(heir.addr.ip).as_slice(),
+            port.format(heir.addr.port).as_bytes(),
+            b"TIMEOUT",
+            timeout.format(HAND_OVER_MS).as_bytes(),
         ],
     )
 }

@@ -2,7 +2,7 @@
 
 ghost use Rattle.std.specs.Prelude.{◌≡◌, IfOk};
 
-use ballot_law::{Body, Message, NoMemory, ShownList, Text};
+use ballot_law::{Body, Message, NoMemory, ShortText, ShownList, Text};
 use std::alloc::Global;
 
 /// A copy of an answer of the port: the configurations that it shows, and its bytes.
@@ -12,6 +12,13 @@ fn copy_of_reply(alloc: Global, shown: &ShownList, text: &Text) -> Result<Body, 
     let shown = ShownList::from_vec(Vec::from_slice(alloc, shown.as_slice())?);
     let text = Text::from_slice(alloc, text.as_slice())?;
     Ok(Body::PortReply { shown, text })
+}
+
+/// The answer to a PING.
+fn pinged(is_error: bool, text: ShortText) -> Body
+    ensures { result ≡ Body.PingText is_error text }
+{
+    Body::PingText { is_error, text }
 }
 
 /// A copy of what a message says.
@@ -44,15 +51,13 @@ fn copy_of_body(alloc: Global, body: &Body) -> Result<Body, NoMemory>
             epoch: *epoch,
         }),
         Body::Ping => Ok(Body::Ping),
-        Body::PingText { is_error, text } => Ok(Body::PingText {
-            is_error: *is_error,
-            text: *text,
-        }),
+        Body::PingText { is_error, text } => Ok(pinged(*is_error, *text)),
         Body::InfoAsk => Ok(Body::InfoAsk),
         Body::InfoText(info) => Ok(Body::InfoText(*info)),
         Body::Publish(hello) => Ok(Body::Publish(*hello)),
         Body::HelloText(hello) => Ok(Body::HelloText(*hello)),
         Body::ReplicaOf(addr) => Ok(Body::ReplicaOf(*addr)),
+        Body::HandOver(heir) => Ok(Body::HandOver(*heir)),
         Body::AddressAsk(name) => Ok(Body::AddressAsk(*name)),
         Body::AddressAnswer(shown) => Ok(Body::AddressAnswer(*shown)),
         Body::PortReply { shown, text } => copy_of_reply(alloc, shown, text),

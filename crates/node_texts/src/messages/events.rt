@@ -12,7 +12,9 @@ ghost use Rattle.ballot_law.specs.Limits.{IsWithinBody};
 use crate::hellos::write_hello;
 use crate::infos::write_info;
 use crate::messages::copies::copy_of;
-use ballot_law::{Body, Command, Event, Hello, Info, Message, NoMemory, NodeName, PingReply, Text};
+use ballot_law::{
+    Addr, Body, Command, Event, Hello, Info, Message, NoMemory, NodeName, PingReply, RunId, Text,
+};
 use resp2::OutText;
 use std::alloc::Global;
 
@@ -36,6 +38,27 @@ fn text_of_hello(alloc: Global, hello: &Hello) -> Result<Text, NoMemory>
     Text::from_slice(alloc, text.as_slice())
 }
 
+/// A command of this sender.
+fn commanded(sender: NodeName, command: Command) -> Event
+    ensures { result ≡ Event.Command sender command }
+{
+    Event::Command { sender, command }
+}
+
+/// This sender's question whether a master is down, and for a vote where there is a candidate.
+fn question(sender: NodeName, addr: Addr, epoch: u64, candidate: Option<RunId>) -> Event
+    ensures { result ≡ Event.Command sender (Command.IsMasterDownByAddr addr epoch candidate) }
+{
+    Event::Command {
+        sender,
+        command: Command::IsMasterDownByAddr {
+            addr,
+            epoch,
+            candidate,
+        },
+    }
+}
+
 /// What a body becomes at a Sentinel; none where it isn't for Sentinels.
 fn heard(alloc: Global, sender: NodeName, body: &Body) -> Result<Option<Event>, NoMemory>
     requires { IsWritable body.now }
@@ -47,14 +70,7 @@ fn heard(alloc: Global, sender: NodeName, body: &Body) -> Result<Option<Event>, 
             epoch,
             candidate,
             ..
-        } => Event::Command {
-            sender,
-            command: Command::IsMasterDownByAddr {
-                addr: *addr,
-                epoch: *epoch,
-                candidate: *candidate,
-            },
-        },
+        } => question(sender, *addr, *epoch, *candidate),
         Body::Answer {
             master,
             addr,
@@ -69,10 +85,7 @@ fn heard(alloc: Global, sender: NodeName, body: &Body) -> Result<Option<Event>, 
             leader: *leader,
             epoch: *epoch,
         },
-        Body::Ping => Event::Command {
-            sender,
-            command: Command::Ping,
-        },
+        Body::Ping => commanded(sender, Command::Ping),
         Body::PingText { is_error, text } => Event::Pinged {
             node: sender,
             reply: PingReply::of(*is_error, text.as_slice()),
@@ -84,10 +97,7 @@ fn heard(alloc: Global, sender: NodeName, body: &Body) -> Result<Option<Event>, 
         Body::HelloText(hello) => Event::HelloRead {
             text: text_of_hello(alloc, hello)?,
         },
-        Body::AddressAsk(name) => Event::Command {
-            sender,
-            command: Command::GetMasterAddrByName(Some(*name)),
-        },
+        Body::AddressAsk(name) => commanded(sender, Command::GetMasterAddrByName(Some(*name))),
         _ => return Ok(None),
     };
     Ok(Some(event))

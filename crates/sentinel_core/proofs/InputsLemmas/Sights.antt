@@ -15,12 +15,13 @@ use Rattle.failover_states.specs.Table.{Turn}
 use Rattle.vote_book.specs.Elections.{next_epoch}
 use Rattle.sentinel_rules.specs.Parts.{Part, quiet, part_if}
 use Rattle.sentinel_rules.specs.Plans.{Plan, me, node_place, settings_at}
-use Rattle.sentinel_rules.specs.States.{Core, MasterState, NodeState, no_master, no_node, master_of, failover_of, is_failing_over, is_master_down, with_master, with_failover, with_current}
+use Rattle.sentinel_rules.specs.States.{Core, MasterState, NodeState, no_master, no_node, master_of, failover_of, is_failing_over, is_master_down, with_master, with_failover, with_current, is_wished}
 use Rattle.sentinel_rules.specs.Profiles.{election_ms, marked_at, marked, rest_of, rested_at, rested}
 use Rattle.sentinel_rules.specs.Votes.{book_of, with_book, mark_for}
-use Rattle.sentinel_rules.specs.Ticks.{campaign_epoch, turn_of, with_vote, with_win, row_part, after_start, start_turn, start_part}
+use Rattle.sentinel_rules.specs.Ticks.{campaign_epoch, turn_of, with_vote, with_win, row_part, after_start, start_turn, start_part, planned_start, with_plan, planned_if}
 use Rattle.sentinel_state.specs.declared.states.State.{State}
 use Rattle.sentinel_state.specs.Parts.{with_part}
+use Rattle.failover_states.specs.Calls.{epoch_of}
 
 -- the configuration of the master, and its nodes, are the same
 abbrev pub LooksAlike : ℕ → Core → Core → Type 0
@@ -94,6 +95,18 @@ begun_alike m turn core = by_test (is_some turn.row)
     by_test true = failover_alike m core turn.failover
     by_test false = failover_alike m core turn.failover
 
+planned_alike : (m now : ℕ) (turn : Turn) (core : Core) → LooksAlike m core (planned_start m now turn core)
+planned_alike m now turn core = by_test (is_some turn.row)
+  where
+    first : Core
+    first = after_start m turn core
+
+    by_test : (b : Bool) → LooksAlike m core (if b then with_plan m now first else first)
+    by_test true =
+        chained m core first (with_plan m now first) (begun_alike m turn core)
+        (same_nodes m first (record (master_of first m) { wish = None; planned = planned_if (is_wished first m now) (epoch_of (failover_of first m).state); refused = false }) refl)
+    by_test false = begun_alike m turn core
+
 if_alike : (m : ℕ) (core : Core) (test : Bool) (part : Core → Part) → LooksAlike m core (part core).core → LooksAlike m core (part_if test core part).core
 if_alike m core true part h = h
 if_alike m core false part h = alike m core
@@ -116,7 +129,7 @@ row_seen plan m now core =
     let second : Core = (part_if (is_failing_over first m) first (row_part plan m now)).core in
     seen_alike plan m now core second
     (chained m core first second
-    (if_alike m core (not (is_failing_over core m)) (λ c. quiet (after_start m (start_turn plan c m now) c)) (begun_alike m (start_turn plan core m now) core))
+    (if_alike m core (not (is_failing_over core m)) (λ c. quiet (planned_start m now (start_turn plan c m now) c)) (planned_alike m now (start_turn plan core m now) core))
     (if_alike m first (is_failing_over first m) (row_part plan m now) (row_alike plan m now first)))
 
 pub seen_after_row : (old mid after : State) (m now : ℕ) → mid ≡ with_part old (start_part old.plan m now old.core)

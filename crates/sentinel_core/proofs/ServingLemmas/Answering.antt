@@ -1,14 +1,14 @@
 -- Answers that have a spelling, and lines that have room.
 use Rattle.std.proofs.Common.{◌≡◌, ◌≢◌, ◌≤◌, ◌<◌, ℕ, zero, suc, List, [], ◌∷◌, slice_index_or, Option, Some, None, refl, sym, ap, ◌∙◌, subst, arith, ◌++◌}
 use Rattle.std.specs.List.{AllZip}
-use Rattle.std.specs.Prelude.{codes, slice_get}
+use Rattle.std.specs.Prelude.{codes, slice_get, ◌||◌, if◌then◌else◌, Bool, true, false}
 use Rattle.ballot_law.specs.declared.addresses.Addr.{Addr}
 use Rattle.ballot_law.specs.declared.addresses.RunId.{RunId}
 use Rattle.ballot_law.specs.declared.cards.Kept.{Kept}
 use Rattle.ballot_law.specs.declared.cards.KeptMaster.{KeptMaster}
 use Rattle.ballot_law.specs.declared.cards.TheConstants.{MAX_EPOCH}
 use Rattle.ballot_law.specs.declared.commands.Command.{Command}
-use Rattle.ballot_law.specs.declared.commands.Command.TheVariants.{Ping, IsMasterDownByAddr, GetMasterAddrByName, Masters, Master, Replicas, Sentinels, MyId, CkQuorum, FlushConfig, Subscribe}
+use Rattle.ballot_law.specs.declared.commands.Command.TheVariants.{Ping, IsMasterDownByAddr, GetMasterAddrByName, Masters, Master, Replicas, Sentinels, MyId, CkQuorum, FlushConfig, Subscribe, Failover}
 use Rattle.ballot_law.specs.declared.events.Event.TheVariants.{Command as Commanded}
 use Rattle.ballot_law.specs.declared.messages.Body.{Body}
 use Rattle.ballot_law.specs.declared.messages.Message.{Message}
@@ -18,7 +18,7 @@ use Rattle.ballot_law.specs.declared.messages.Output.TheVariants.{Send, Tell}
 use Rattle.ballot_law.specs.Ballots.{no_kept, voted_of}
 use Rattle.ballot_law.specs.Clocks.{clock}
 use Rattle.ballot_law.specs.Rosters.{MasterPlan}
-use Rattle.port_answers.specs.Answers.{command_fault, master_frame, replicas_frame, sentinels_frame}
+use Rattle.port_answers.specs.Answers.{command_fault, ok_line, in_progress, in_tilt, no_good_replica}
 use Rattle.bounded_list.specs.BoundedLists.{bounded as within_limit}
 use Rattle.port_answers.specs.Room.{bounded}
 use Rattle.resp2.specs.declared.command.CommandFault.{CommandFault}
@@ -28,11 +28,15 @@ use Rattle.resp2.proofs.FramingLemmas.Lines.{pong_line}
 use Rattle.sentinel_conf.specs.Meaning.{ConfPlan}
 use Rattle.sentinel_conf.specs.Rewritten.{IsKeptMaster, IsKeptPart}
 use Rattle.sentinel_rules.proofs.ShownEpochs.{voted_within}
-use Rattle.sentinel_rules.specs.Answers.{commanded, asked_of, master_with_card, named, about, reply, master_row, replica_rows, sentinel_rows, quorum_frame}
+use Rattle.sentinel_rules.specs.Answers.{commanded, asked_of, master_with_card, named, about, reply, master_row, replica_rows, sentinel_rows, quorum_frame, Answered, unchanged, has_heir, wished, asked_to_switch}
 use Rattle.sentinel_rules.specs.Plans.{Plan}
-use Rattle.sentinel_rules.specs.States.{Core}
+use Rattle.sentinel_rules.specs.Rows.{master_frame_by, replicas_frame_by, sentinels_frame_by}
+use Rattle.sentinel_rules.specs.States.{Core, is_failing_over, is_tilted, is_wished}
 use Rattle.sentinel_rules.specs.Takes.{next, cleared}
 use Rattle.node_texts.specs.Messages.MessageTexts.{IsWritable}
+use Rattle.sentinel_rules.specs.Profiles.{by_profile}
+use Rattle.sentinel_rules.specs.declared.profiles.Profile.{Profile}
+use Rattle.sentinel_rules.specs.declared.profiles.Profile.TheVariants.{Strict, Redis}
 
 -- ---- lines
 
@@ -59,6 +63,24 @@ about_writable : (core : Core) (m : Option ℕ) (shown : ℕ → List ℕ) (fram
 about_writable core None shown frame = tt
 about_writable core (Some m) shown frame = tt
 
+switch_writable : (plan : Plan) (m now : ℕ) (busy tilted heir : Bool) (core : Core) →
+    IsWritable (if busy then unchanged core (reply core [] in_progress)
+    else (if tilted then unchanged core (reply core [] in_tilt)
+    else (if heir then record { core = wished m now core; body = reply core [] ok_line } else unchanged core (reply core [] no_good_replica)))).body
+switch_writable plan m now true tilted heir core = tt
+switch_writable plan m now false true heir core = tt
+switch_writable plan m now false false true core = tt
+switch_writable plan m now false false false core = tt
+
+asked_switch_writable : (plan : Plan) (now : ℕ) (m : Option ℕ) (core : Core) → IsWritable (asked_to_switch plan now m core).body
+asked_switch_writable plan now None core = tt
+asked_switch_writable plan now (Some m) core =
+    switch_writable plan m now (is_failing_over core m || is_wished core m now) (is_tilted core) (has_heir plan core m now) core
+
+either_writable : (profile : Profile) (strict redis : Answered) → IsWritable strict.body → IsWritable redis.body → IsWritable (by_profile profile strict redis).body
+either_writable Strict strict redis f g = f
+either_writable Redis strict redis f g = g
+
 pub command_writable : (plan : Plan) (now : ℕ) (command : Command) (core : Core)
     → IsKeptPart plan.conf (commanded plan now command core).core.kept → IsWritable (commanded plan now command core).body
 command_writable plan now Ping core h = pong_line
@@ -67,11 +89,14 @@ command_writable plan now (IsMasterDownByAddr addr epoch candidate) core h =
 command_writable plan now (GetMasterAddrByName name) core h = tt
 command_writable plan now Masters core h = tt
 command_writable plan now (Master name) core h =
-    about_writable core (named plan name) (λ m. m ∷ []) (λ m. master_frame (master_row plan core now m))
-command_writable plan now (Replicas name) core h = about_writable core (named plan name) (λ m. []) (λ m. replicas_frame (replica_rows plan core now m))
-command_writable plan now (Sentinels name) core h = about_writable core (named plan name) (λ m. []) (λ m. sentinels_frame (sentinel_rows plan core now))
+    about_writable core (named plan name) (λ m. m ∷ []) (λ m. master_frame_by plan.profile (master_row plan core now m))
+command_writable plan now (Replicas name) core h = about_writable core (named plan name) (λ m. []) (λ m. replicas_frame_by plan.profile (replica_rows plan core now m))
+command_writable plan now (Sentinels name) core h = about_writable core (named plan name) (λ m. []) (λ m. sentinels_frame_by plan.profile (sentinel_rows plan core now m))
 command_writable plan now MyId core h = tt
 command_writable plan now (CkQuorum name) core h = about_writable core (named plan name) (λ m. []) (λ m. quorum_frame plan core now m)
+command_writable plan now (Failover name) core h =
+    either_writable plan.profile (unchanged core (reply core [] (command_fault UnknownCommand))) (asked_to_switch plan now (named plan name) core) tt
+    (asked_switch_writable plan now (named plan name) core)
 command_writable plan now FlushConfig core h = tt
 command_writable plan now Subscribe core h = tt
 

@@ -4,13 +4,13 @@ use Rattle.std.specs.List.{AllByRecursion}
 use Rattle.std.specs.Prelude.{All}
 use Rattle.std.proofs.lemmas.List.Elements.{All-head, All-tail}
 use Rattle.ballot_law.specs.declared.events.Event.{Event}
-use Rattle.ballot_law.specs.declared.events.Event.TheVariants.{Tick, Command as Commanded, Answered as AnswerCame, Pinged, InfoRead, HelloRead, Disconnected, Become, Handed}
+use Rattle.ballot_law.specs.declared.events.Event.TheVariants.{Tick, Command as Commanded, Answered as AnswerCame, Pinged, InfoRead, HelloRead, Disconnected, Become, Handed, Refused}
 use Rattle.ballot_law.specs.Clocks.{clock}
 use Rattle.node_texts.specs.Messages.MessageTexts.{IsWritableOutput}
 use Rattle.sentinel_core.proofs.ServingLemmas.Answering.{command_writable}
 use Rattle.sentinel_conf.specs.Rewritten.{IsKeptPart}
 use Rattle.sentinel_rules.specs.declared.frames.Frame.{Frame}
-use Rattle.sentinel_rules.specs.declared.frames.Frame.TheVariants.{PingTo, InfoTo, HelloTo, AskTo, PromoteTo, FollowTo, NoteOf}
+use Rattle.sentinel_rules.specs.declared.frames.Frame.TheVariants.{PingTo, InfoTo, HelloTo, AskTo, PromoteTo, FollowTo, NoteOf, HandOverTo}
 use Rattle.ballot_law.specs.Limits.{IsWithinOutput}
 use Rattle.sentinel_rules.specs.Parts.{output_of}
 use Rattle.sentinel_rules.specs.Plans.{Plan}
@@ -24,6 +24,7 @@ frame_writable plan core (InfoTo target) within = tt
 frame_writable plan core (HelloTo target m) within = within
 frame_writable plan core (AskTo place m candidate) within = tt
 frame_writable plan core (PromoteTo target) within = tt
+frame_writable plan core (HandOverTo target heir) within = tt
 frame_writable plan core (FollowTo target m) within = tt
 frame_writable plan core (NoteOf m old) within = tt
 
@@ -46,6 +47,7 @@ outputs_at plan now (InfoRead node text) core kept within = frames_writable plan
     (part_of plan now (InfoRead node text) core).frames within
 outputs_at plan now (HelloRead text) core kept within = frames_writable plan (part_of plan now (HelloRead text) core).core (part_of plan now (HelloRead text) core).frames within
 outputs_at plan now (Disconnected node) core kept within = tt
+outputs_at plan now (Refused node) core kept within = tt
 outputs_at plan now (Become priority offset link_down) core kept within = tt
 outputs_at plan now (Handed message) core kept within = tt
 

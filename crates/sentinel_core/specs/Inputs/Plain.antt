@@ -2,12 +2,12 @@
 use Rattle.std.specs.Prelude.{ℕ, Bool, true, false, [], ◌∷◌}
 use Rattle.ballot_law.specs.declared.messages.Body.{Body}
 use Rattle.ballot_law.specs.declared.commands.Command.{Command}
-use Rattle.ballot_law.specs.declared.commands.Command.TheVariants.{Ping, IsMasterDownByAddr, GetMasterAddrByName, Masters, Master, Replicas, Sentinels, MyId, CkQuorum, FlushConfig, Subscribe}
-use Rattle.port_answers.specs.Answers.{master_frame, replicas_frame, sentinels_frame}
+use Rattle.ballot_law.specs.declared.commands.Command.TheVariants.{Ping, IsMasterDownByAddr, GetMasterAddrByName, Masters, Master, Replicas, Sentinels, MyId, CkQuorum, Failover, FlushConfig, Subscribe}
 use Rattle.sentinel_core.specs.declared.inputs.commands.Asked.{Asked}
 use Rattle.sentinel_core.specs.declared.inputs.commands.Asked.TheVariants.{Whole, Replicas as OfReplicas, Sentinels as OfSentinels, Quorum}
 use Rattle.sentinel_rules.specs.Answers.{master_row, replica_rows, sentinel_rows, quorum_frame, reply}
 use Rattle.sentinel_rules.specs.Plans.{Plan}
+use Rattle.sentinel_rules.specs.Rows.{master_frame_by, replicas_frame_by, sentinels_frame_by}
 use Rattle.sentinel_rules.specs.States.{Core}
 
 -- the answer is a value of its own kind, and not the bytes of a text
@@ -21,12 +21,18 @@ is_plain (Replicas name) = false
 is_plain (Sentinels name) = false
 is_plain MyId = false
 is_plain (CkQuorum name) = false
+is_plain (Failover name) = false
 is_plain FlushConfig = false
 is_plain Subscribe = false
 
+-- it asks for a switch
+abbrev pub is_switch : Command → Bool
+is_switch (Failover name) = true
+is_switch _ = false
+
 -- the answer to what is asked about the master with a number
 abbrev pub answer_about : Plan → Core → (now : ℕ) → Asked → (m : ℕ) → Body
-answer_about plan core now Whole m = reply core (m ∷ []) (master_frame (master_row plan core now m))
-answer_about plan core now OfReplicas m = reply core [] (replicas_frame (replica_rows plan core now m))
-answer_about plan core now OfSentinels m = reply core [] (sentinels_frame (sentinel_rows plan core now))
+answer_about plan core now Whole m = reply core (m ∷ []) (master_frame_by plan.profile (master_row plan core now m))
+answer_about plan core now OfReplicas m = reply core [] (replicas_frame_by plan.profile (replica_rows plan core now m))
+answer_about plan core now OfSentinels m = reply core [] (sentinels_frame_by plan.profile (sentinel_rows plan core now m))
 answer_about plan core now Quorum m = reply core [] (quorum_frame plan core now m)

@@ -1,7 +1,7 @@
 -- What the rows of the failover table ask for, and what they look at.
 use Rattle.std.specs.Prelude.{Bool, true, false, Option, Some, None, [], if◌then◌else◌}
 use Rattle.failover_states.specs.declared.states.Row.{Row}
-use Rattle.failover_states.specs.declared.states.Row.TheVariants.{Promote}
+use Rattle.failover_states.specs.declared.states.Row.TheVariants.{Promote, PromotionTimeout}
 use Rattle.failover_states.specs.declared.states.FailoverState.{FailoverState}
 use Rattle.failover_states.specs.declared.states.FailoverState.TheVariants.{Idle, WaitStart, SelectReplica, SendPromotion, WaitPromotion, ReconfReplicas, UpdateConfig}
 use Rattle.failover_states.specs.Known.{Known}
@@ -10,6 +10,11 @@ use Rattle.failover_states.specs.Known.{Known}
 abbrev pub is_promotion : Option Row → Bool
 is_promotion (Some Promote) = true
 is_promotion _ = false
+
+-- the choice didn't become a master in time
+abbrev pub is_too_late : Option Row → Bool
+is_too_late (Some PromotionTimeout) = true
+is_too_late _ = false
 
 -- the rows of this state look at the votes heard
 abbrev pub looks_at_votes : FailoverState → Bool

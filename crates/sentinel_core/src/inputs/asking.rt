@@ -52,14 +52,15 @@ fn ask_candidate(state: &State, m: u16) -> Option<RunId>
 }
 
 /// While a master is down, asks the other Sentinels whether they find it down too, once a second and at a start, and
-/// for their votes while a failover runs. `started` tells whether a failover of the master started with this tick,
-/// `down` whether this Sentinel finds the master down.
+/// for their votes while a failover runs; by the profile for their votes of a master that is up, too. `started` tells
+/// whether a failover of the master started with this tick, `down` whether this Sentinel finds the master down.
 pub(crate) fn ask_others(state: &mut State, m: u16, now: u64, started: bool, down: bool)
     requires { down ≡ is_master_down state.old.plan state.old.core m (clock now) }
     ensures { state.new ≡ with_part state.old (ask_part state.old.plan m (clock now) started state.old.core) }
 {
     let at = clock_of(now);
-    if down && is_ask_due(&state.core, m, at, started) {
+    let asks = state.core.is_asking(&state.plan, m, now, down);
+    if asks && is_ask_due(&state.core, m, at, started) {
         let candidate = ask_candidate(state, m);
         ask_each(
             state.core.peers(),

@@ -5,16 +5,22 @@ ghost use Rattle.ballot_law.specs.declared.messages.Body.TheVariants.{PingText, 
 ghost use Rattle.ballot_law.specs.declared.messages.TheConstants.{ANSWER_MAX, SHOWN_MAX};
 ghost use Rattle.ballot_law.specs.Clocks.{clock};
 ghost use Rattle.resp2.specs.Framing.Frame.{spelling};
-ghost use Rattle.port_answers.specs.Answers.{masters_frame, no_such_master, ok_line, id_frame, subscribed};
-ghost use Rattle.sentinel_rules.specs.Answers.{master_with_card, asked_of, master_row, all_masters, reply, named, about, address_of, commanded};
+ghost use Rattle.port_answers.specs.Answers.{no_such_master, ok_line, in_progress, in_tilt, no_good_replica, id_frame, subscribed, command_fault};
+ghost use Rattle.sentinel_rules.specs.Answers.{master_with_card, asked_of, master_row, all_masters, reply, named, about, address_of, switch_at, asked_to_switch, commanded};
 ghost use Rattle.sentinel_rules.specs.Plans.{roster_of, me, master_count};
-ghost use Rattle.sentinel_core.specs.Inputs.Plain.{is_plain, answer_about};
+ghost use Rattle.sentinel_rules.specs.Rows.{masters_frame_by};
+ghost use Rattle.sentinel_core.specs.Inputs.Plain.{is_plain, is_switch, answer_about};
+ghost use Rattle.resp2.specs.declared.command.CommandFault.TheVariants.{UnknownCommand};
 
+use crate::inputs::facts::has_heir;
 use crate::inputs::rows::{
-    add_masters, add_quorum, add_replicas, add_sentinels, master_row, shown_card, shown_masters,
+    add_master, add_masters, add_quorum, add_replicas, add_sentinels, master_row, shown_card,
+    shown_masters,
 };
 use ballot_law::{Addr, Body, Command, Name, RunId, ShortText, Shown, ShownList};
 use port_answers::AnswerText;
+use resp2::CommandFault;
+use sentinel_rules::Profile;
 use sentinel_state::{Core, Plan};
 
 /// What a command asks about one master.
@@ -63,8 +69,10 @@ fn no_such_master(text: AnswerText, shown: Vec<Shown>) -> Body
 }
 
 /// The answer to a command that needs no text: PING, `SENTINEL IS-MASTER-DOWN-BY-ADDR`, which may give a vote, and
-/// `SENTINEL GET-MASTER-ADDR-BY-NAME`. For the others there is none, and nothing changes.
+/// `SENTINEL GET-MASTER-ADDR-BY-NAME`. For the others there is none, and nothing changes. `answer_switch` answers
+/// `SENTINEL FAILOVER`.
 pub fn answer_plainly(plan: &Plan, core: &mut Core, now: u64, command: &Command) -> Option<Body>
+    requires kind { is_switch command.now ≡ false }
     ensures plain { IsSome result ↔ (is_plain command.now ≡ true) }
     ensures core { core.new ≡ (commanded plan.now (clock now) command.now core.old).core }
     ensures body { IfSome result (λ body. body ≡ (commanded plan.now (clock now) command.now core.old).body) }
@@ -85,6 +93,7 @@ pub fn answer_plainly(plan: &Plan, core: &mut Core, now: u64, command: &Command)
         | Command::Sentinels(_)
         | Command::MyId
         | Command::CkQuorum(_)
+        | Command::Failover(_)
         | Command::FlushConfig
         | Command::Subscribe => None,
     }
@@ -104,6 +113,7 @@ pub fn answer_by_text(
     requires list { SHOWN_MAX ≤ vec_capacity shown }
     requires empty { (text.items ≡ []) × (shown.items ≡ []) }
     requires kind { is_plain command.now ≡ false }
+    requires other { is_switch command.now ≡ false }
     ensures body { result ≡ (commanded plan.now (clock now) command.now core.now).body }
     ensures core { (commanded plan.now (clock now) command.now core.now).core ≡ core.now }
 {
@@ -133,8 +143,10 @@ pub fn answer_by_text(
         Command::CkQuorum(name) => answer_about(plan, core, now, name, Asked::Quorum, text, shown),
         Command::FlushConfig => answer_done(text, shown),
         Command::Subscribe => answer_subscribed(text, shown),
-        Command::Ping | Command::IsMasterDownByAddr { .. } | Command::GetMasterAddrByName(_) =>
-            unreachable!(),
+        Command::Ping
+        | Command::IsMasterDownByAddr { .. }
+        | Command::GetMasterAddrByName(_)
+        | Command::Failover(_) => unreachable!(),
     }
 }
 
@@ -193,7 +205,7 @@ fn answer_masters(plan: &Plan, core: &Core, now: u64, text: AnswerText, shown: V
     requires text { text ≡ [] }
     requires room { SHOWN_MAX ≤ vec_capacity shown }
     requires list { shown.items ≡ [] }
-    ensures { result ≡ reply core.now (all_masters plan.now) (masters_frame (map (master_row plan.now core.now (clock now)) (all_masters plan.now))) }
+    ensures { result ≡ reply core.now (all_masters plan.now) (masters_frame_by plan.now.profile (map (master_row plan.now core.now (clock now)) (all_masters plan.now))) }
 {
     let mut text = text;
     add_masters(plan, core, now, &mut text);
@@ -225,7 +237,8 @@ fn answer_about(
     let mut shown = shown;
     match asked {
         Asked::Whole => {
-            text.add_master(&master_row(plan, core, now, m));
+            let row = master_row(plan, core, now, m);
+            add_master(plan.profile(), &row, &mut text);
             shown.push_reserved(shown_card(core, m));
             reply(text, shown)
         }
@@ -234,7 +247,7 @@ fn answer_about(
             reply(text, shown)
         }
         Asked::Sentinels => {
-            add_sentinels(plan, core, now, &mut text);
+            add_sentinels(plan, core, now, m, &mut text);
             reply(text, shown)
         }
         Asked::Quorum => {
@@ -275,4 +288,118 @@ fn answer_done(text: AnswerText, shown: Vec<Shown>) -> Body
     let mut text = text;
     text.add_ok();
     reply(text, shown)
+}
+
+/// The answer to a command that the Sentinel doesn't know.
+#[tactic(auto, using(crate::proofs::InputsLemmas::AnswerRows::unknown_command_whole))]
+fn answer_unknown(text: AnswerText, shown: Vec<Shown>) -> Body
+    requires { text ≡ [] }
+    ensures { result ≡ PortReply shown.items (spelling (command_fault UnknownCommand)) }
+{
+    let mut text = text;
+    text.add_command_fault(CommandFault::UnknownCommand);
+    reply(text, shown)
+}
+
+/// The answer where a failover is under way already.
+#[tactic(auto, using(crate::proofs::InputsLemmas::AnswerRows::in_progress_whole))]
+fn answer_in_progress(text: AnswerText, shown: Vec<Shown>) -> Body
+    requires { text ≡ [] }
+    ensures { result ≡ PortReply shown.items (spelling in_progress) }
+{
+    let mut text = text;
+    text.add_in_progress();
+    reply(text, shown)
+}
+
+/// The answer where the clock isn't to be trusted.
+#[tactic(auto, using(crate::proofs::InputsLemmas::AnswerRows::in_tilt_whole))]
+fn answer_in_tilt(text: AnswerText, shown: Vec<Shown>) -> Body
+    requires { text ≡ [] }
+    ensures { result ≡ PortReply shown.items (spelling in_tilt) }
+{
+    let mut text = text;
+    text.add_in_tilt();
+    reply(text, shown)
+}
+
+/// The answer where no replica can be promoted.
+#[tactic(auto, using(crate::proofs::InputsLemmas::AnswerRows::no_good_replica_whole))]
+fn answer_no_good_replica(text: AnswerText, shown: Vec<Shown>) -> Body
+    requires { text ≡ [] }
+    ensures { result ≡ PortReply shown.items (spelling no_good_replica) }
+{
+    let mut text = text;
+    text.add_no_good_replica();
+    reply(text, shown)
+}
+
+/// The answer to SENTINEL FAILOVER of this master, whose campaign begins with the next tick where nothing is against
+/// it.
+fn answer_switch_at(
+    plan: &Plan,
+    core: &mut Core,
+    now: u64,
+    m: u16,
+    text: AnswerText,
+    shown: Vec<Shown>,
+) -> Body
+    requires text { text ≡ [] }
+    requires list { shown.items ≡ [] }
+    ensures core { core.new ≡ (switch_at plan.now m (clock now) core.old).core }
+    ensures body { result ≡ (switch_at plan.now m (clock now) core.old).body }
+{
+    if core.is_failing_over(m) || core.is_wished(m, now) {
+        return answer_in_progress(text, shown);
+    }
+    if core.is_tilted() {
+        return answer_in_tilt(text, shown);
+    }
+    if !has_heir(plan, core, m, now) {
+        return answer_no_good_replica(text, shown);
+    }
+    core.wish(m, now);
+    answer_done(text, shown)
+}
+
+/// The answer to SENTINEL FAILOVER of the master with this name.
+fn answer_switch_of(
+    plan: &Plan,
+    core: &mut Core,
+    now: u64,
+    name: Option<Name>,
+    text: AnswerText,
+    shown: Vec<Shown>,
+) -> Body
+    requires text { text ≡ [] }
+    requires list { shown.items ≡ [] }
+    ensures core { core.new ≡ (asked_to_switch plan.now (clock now) (named plan.now name) core.old).core }
+    ensures body { result ≡ (asked_to_switch plan.now (clock now) (named plan.now name) core.old).body }
+{
+    match plan.named(name) {
+        Some(m) => answer_switch_at(plan, core, now, m, text, shown),
+        None => no_such_master(text, shown),
+    }
+}
+
+/// The answer to SENTINEL FAILOVER, in the room of these two buffers, as that of `answer_by_text`. A strict Sentinel
+/// doesn't know it.
+pub fn answer_switch(
+    plan: &Plan,
+    core: &mut Core,
+    now: u64,
+    name: Option<Name>,
+    text: Vec<u8>,
+    shown: Vec<Shown>,
+) -> Body
+    requires text { ANSWER_MAX ≤ vec_capacity text }
+    requires empty { (text.items ≡ []) × (shown.items ≡ []) }
+    ensures core { core.new ≡ (commanded plan.now (clock now) (Command.Failover name) core.old).core }
+    ensures body { result ≡ (commanded plan.now (clock now) (Command.Failover name) core.old).body }
+{
+    let text = AnswerText::from_vec(text);
+    match plan.profile() {
+        Profile::Strict => answer_unknown(text, shown),
+        Profile::Redis => answer_switch_of(plan, core, now, name, text, shown),
+    }
 }

@@ -1,11 +1,13 @@
 //! What a turn of a master's failover looks at: the best replica, which nodes are down, and the votes of its campaign.
 
-ghost use Rattle.std.specs.Prelude.{◌≡◌, ◌≤◌, [], None, IfSome, if◌then◌else◌, is_some, length, take};
+ghost use Rattle.std.specs.Prelude.{◌≡◌, ◌≤◌, ◌<◌, [], None, IfSome, if◌then◌else◌, is_some, length, take};
 ghost use Rattle.ballot_law.specs.declared.rosters.TheConstants.{NODES_MAX};
 ghost use Rattle.ballot_law.specs.Clocks.{clock};
 ghost use Rattle.sentinel_rules.specs.Plans.{me, nodes_of};
 ghost use Rattle.sentinel_rules.specs.States.{card_place, is_node_down, node_of};
-ghost use Rattle.sentinel_rules.specs.Ticks.{candidate_of, candidates_of, at_places, limits_of, best_of, pick_of, count_of};
+ghost use Rattle.replica_choice.specs.Choices.{choice_of};
+ghost use Rattle.sentinel_rules.specs.Answers.{may_take_over, has_heir};
+ghost use Rattle.sentinel_rules.specs.Ticks.{candidate_of, candidates_of, at_places, limits_of, best_place, best_of, pick_of, count_of};
 ghost use Rattle.sentinel_rules.specs.Profiles.{link_at, lesser, least_link_ms, down_for, master_down_ms};
 ghost use Rattle.sentinel_core.specs.Inputs.Rows.{looks_at_votes, looks_at_best, looks_at_nodes};
 
@@ -13,11 +15,11 @@ use ballot_law::{Addr, NODES_MAX, RunId, clock_of};
 use failover_states::FailoverState;
 use replica_choice::{Candidate, Limits, choose};
 use sentinel_rules::{LINK_MAX_S, Profile};
-use sentinel_state::State;
+use sentinel_state::{Core, Plan, State};
 use std::marker::Model;
 
 /// For how long something has been down, in milliseconds.
-fn down_for(since: Option<u64>, now: u64) -> u64
+pub(crate) fn down_for(since: Option<u64>, now: u64) -> u64
     ensures { result ≡ down_for since now }
 {
     match since {
@@ -88,21 +90,19 @@ impl DownPlaces {
 }
 
 /// What is known of the node at a place as a replica to choose; the node of the configuration, at `card_at`, is none.
-fn candidate(state: &State, m: u16, now: u64, card_at: usize, k: usize) -> Candidate
-    requires { card_at ≡ card_place state.now.plan state.now.core m }
-    ensures { result ≡ candidate_of state.now.plan state.now.core m (clock now) k }
+fn candidate(plan: &Plan, core: &Core, m: u16, now: u64, card_at: usize, k: usize) -> Candidate
+    requires { card_at ≡ card_place plan.now core.now m }
+    ensures { result ≡ candidate_of plan.now core.now m (clock now) k }
 {
-    let node = state.core.node(m, k);
-    let is_out = k == card_at
-        || state.core.is_node_down(&state.plan, m, now, card_at, k)
-        || node.lost;
+    let node = core.node(m, k);
+    let is_out = k == card_at || core.is_node_down(plan, m, now, card_at, k) || node.lost;
     node.candidate(is_out)
 }
 
 /// Each node of a master as a replica to choose, by its place.
-fn candidates(state: &State, m: u16, now: u64, card_at: usize) -> [Candidate; NODES_MAX]
-    requires { card_at ≡ card_place state.now.plan state.now.core m }
-    ensures { take (length (nodes_of state.now.plan m)) result ≡ candidates_of state.now.plan state.now.core m (clock now) }
+fn candidates(plan: &Plan, core: &Core, m: u16, now: u64, card_at: usize) -> [Candidate; NODES_MAX]
+    requires { card_at ≡ card_place plan.now core.now m }
+    ensures { take (length (nodes_of plan.now m)) result ≡ candidates_of plan.now core.now m (clock now) }
 {
     let none = Candidate {
         sdown: true,
@@ -114,10 +114,28 @@ fn candidates(state: &State, m: u16, now: u64, card_at: usize) -> [Candidate; NO
         id: None,
     };
     let mut candidates = [none; NODES_MAX];
-    for k in 0..state.plan.nodes(m).len() {
-        candidates[k] = candidate(state, m, now, card_at, k);
+    for k in 0..plan.nodes(m).len() {
+        candidates[k] = candidate(plan, core, m, now, card_at, k);
     }
     candidates
+}
+
+/// Whether a replica can be promoted, however old what it told is.
+fn may_take_over(candidate: &Candidate) -> bool
+    ensures { result ≡ may_take_over candidate.now }
+{
+    !candidate.sdown && 0 < candidate.priority && candidate.last_info.is_some()
+}
+
+/// Whether a replica of a master can be promoted, however old what it told is.
+pub(crate) fn has_heir(plan: &Plan, core: &Core, m: u16, now: u64) -> bool
+    ensures { result ≡ has_heir plan.now core.now m (clock now) }
+{
+    let card_at = core.card_place(plan, m);
+    let candidates = candidates(plan, core, m, now, card_at);
+    candidates[..plan.nodes(m).len()]
+        .iter()
+        .any(|candidate| may_take_over(candidate))
 }
 
 /// The lesser of two, where there is one.
@@ -199,15 +217,39 @@ fn limits(state: &State, m: u16, now: u64, card_at: usize) -> Limits
     }
 }
 
+/// The place of the best replica of a master to take its place, by what it told; none where no replica may.
+fn best_told(state: &State, m: u16, now: u64) -> Option<usize>
+    ensures value { result ≡ choice_of (candidates_of state.now.plan state.now.core m (clock now)) (clock now) (limits_of state.now.plan state.now.core m (clock now)) }
+    ensures within { IfSome result (λ k. k < length (nodes_of state.now.plan m)) }
+{
+    let nodes = state.plan.nodes(m);
+    let card_at = state.core.card_place(&state.plan, m);
+    let candidates = candidates(&state.plan, &state.core, m, now, card_at);
+    let limits = limits(state, m, now, card_at);
+    choose(&candidates[..nodes.len()], clock_of(now), limits)
+}
+
+/// The place of the best replica of a master: after a switch that was made at the nodes that of the node which took
+/// over.
+fn best_place(state: &State, m: u16, now: u64) -> Option<usize>
+    ensures value { result ≡ best_place state.now.plan state.now.core m (clock now) }
+    ensures within { IfSome result (λ k. k < length (nodes_of state.now.plan m)) }
+{
+    if let Some(place) = state.core.switched_to(&state.plan, m, now) {
+        return Some(place);
+    }
+    if state.core.is_given_away(&state.plan, m, now) {
+        return None;
+    }
+    best_told(state, m, now)
+}
+
 /// The best replica of a master to take its place, by its place and its address; none where no replica may.
 fn best(state: &State, m: u16, now: u64) -> Option<(u16, Addr)>
     ensures { result ≡ best_of state.now.plan state.now.core m (clock now) }
 {
     let nodes = state.plan.nodes(m);
-    let card_at = state.core.card_place(&state.plan, m);
-    let candidates = candidates(state, m, now, card_at);
-    let limits = limits(state, m, now, card_at);
-    let place = choose(&candidates[..nodes.len()], clock_of(now), limits)?;
+    let place = best_place(state, m, now)?;
     Some((place as u16, nodes[place]))
 }
 
@@ -247,7 +289,6 @@ pub(crate) fn count_for(state: &State, m: u16, epoch: u64, stage: FailoverState)
 }
 
 /// The best replica, where the rows of this state look at it.
-#[tactic(auto, using(crate::proofs::InputsLemmas::FewBest::best_few))]
 pub(crate) fn best_for(state: &State, m: u16, now: u64, stage: FailoverState) -> Option<(u16, Addr)>
     ensures value { result ≡ (if looks_at_best stage then best_of state.now.plan state.now.core m (clock now) else None) }
     ensures few { IfSome result (λ best. best.0 ≤ NODES_MAX) }

@@ -10,16 +10,16 @@ ghost use Rattle.failover_states.specs.Table.{turned};
 ghost use Rattle.sentinel_rules.specs.Parts.{frames_from};
 ghost use Rattle.sentinel_rules.specs.Plans.{master_count};
 ghost use Rattle.sentinel_rules.specs.States.{failover_of, with_failover};
-ghost use Rattle.sentinel_rules.specs.Ticks.{known_of, turn_of, with_win, promote_frames, order_frames, row_part, is_start_due, start_part, starts_now};
+ghost use Rattle.sentinel_rules.specs.Ticks.{known_of, turn_of, with_win, hands_over, order_to, promote_frames, order_frames, row_part, is_start_due, start_part, starts_now};
 ghost use Rattle.sentinel_state.specs.Parts.{with_part};
 ghost use Rattle.sentinel_state.specs.Nodes.Room.{added};
-ghost use Rattle.sentinel_core.specs.Inputs.Rows.{is_promotion, looked_at};
+ghost use Rattle.sentinel_core.specs.Inputs.Rows.{is_promotion, is_too_late, looked_at};
 
 use crate::inputs::facts::{best_for, card_place_for, count_for, down_for_rows, pick_for};
-use ballot_law::Win;
+use ballot_law::{Heir, Win};
 use failover_states::{Act, Facts, FailoverState, Row};
 use sentinel_rules::Frame;
-use sentinel_state::{Core, FrameList, Plan, State};
+use sentinel_state::{Core, FrameList, MasterNotice, Plan, State};
 
 /// Whether the row tells the choice that it is the master.
 fn is_promotion(row: Option<Row>) -> bool
@@ -28,16 +28,34 @@ fn is_promotion(row: Option<Row>) -> bool
     matches!(row, Some(Row::Promote))
 }
 
-/// Whether the master was objectively down when that was last looked at, and the own campaign may begin.
+/// Whether the failover ends since its choice didn't become a master in time.
+fn is_too_late(row: Option<Row>) -> bool
+    ensures { result ≡ is_too_late row }
+{
+    matches!(row, Some(Row::PromotionTimeout))
+}
+
+/// Whether a client asked that the master hand over; or the own campaign may begin, and the master was objectively down
+/// when that was last looked at, or was handed over at the nodes.
 fn is_start_due(state: &State, m: u16, now: u64) -> bool
     ensures value { result ≡ is_start_due state.now.plan state.now.core m (clock now) }
     ensures here { result ≡ true → m < length state.now.core.masters }
 {
-    state.core.was_odown(m) && state.core.may_begin(&state.plan, m, now)
+    if state.core.is_wished(m, now) {
+        return true;
+    }
+    if state.core.was_odown(m) {
+        return state.core.may_begin(&state.plan, m, now);
+    }
+    if state.core.is_switch_due(&state.plan, m, now) {
+        return state.core.may_begin(&state.plan, m, now);
+    }
+    false
 }
 
 /// Starts a failover where none runs and one is due, and tells whether it did. A failover that starts opens the epoch
-/// after the current one for its campaign, and keeps it.
+/// after the current one for its campaign, and keeps it; where it is that of a switch which a client asked for, its
+/// epoch is kept for that too.
 pub(crate) fn start_failover(state: &mut State, m: u16, now: u64) -> bool
     requires { m < master_count state.old.plan }
     ensures started { result ≡ starts_now state.old.plan state.old.core m (clock now) }
@@ -53,6 +71,7 @@ pub(crate) fn start_failover(state: &mut State, m: u16, now: u64) -> bool
     }
     let epoch = state.core.campaign_epoch(m);
     state.core.set_current(epoch);
+    state.core.plan_switch(m, now);
     true
 }
 
@@ -63,8 +82,10 @@ pub(crate) fn take_row(state: &mut State, m: u16, now: u64)
     ensures { state.new ≡ with_part state.old (row_part state.old.plan m (clock now) state.old.core) }
 {
     let epoch = state.core.campaign_epoch(m);
+    let planned = state.core.is_planned(m);
+    let hands_over = hands_over(state, m, now);
     let act = turn(state, m, now, false);
-    promote_choice(state, m, act.row);
+    promote_choice(state, m, planned, hands_over, act.row);
     order_replicas(&state.core, &state.plan, m, &mut state.frames);
     state.core.give_vote(&state.plan, m, now, epoch, act.vote);
     note_win(&mut state.core, m, epoch, act.row);
@@ -128,19 +149,53 @@ fn facts<'a>(
     }
 }
 
-/// Tells the choice that it is the master, where the row does.
-fn promote_choice(state: &mut State, m: u16, row: Option<Row>)
+/// Whether the master is told to hand over to the choice: in a switch that a client asked for, where it is up.
+fn hands_over(state: &State, m: u16, now: u64) -> bool
+    ensures { result ≡ hands_over state.now.plan state.now.core m (clock now) }
+{
+    state.core.is_planned(m) && !state.core.is_master_down(&state.plan, m, now)
+}
+
+/// The order by which the choice is to be the master: to itself, or to the master that hands over to it.
+fn order_to(state: &State, m: u16, k: usize, hands_over: bool) -> Frame
+    requires { k ≤ NODES_MAX }
+    ensures { result ≡ order_to state.now.plan state.now.core m k hands_over }
+{
+    if hands_over {
+        let place = state.core.card_place(&state.plan, m);
+        return Frame::HandOverTo {
+            target: state.plan.node_name(m, place),
+            heir: Some(Heir {
+                node: state.plan.node_name(m, k),
+                addr: state.plan.addr_at(m, k),
+            }),
+        };
+    }
+    Frame::PromoteTo(state.plan.node_name(m, k))
+}
+
+/// Has the choice be the master, where the row does; a master that was to hand over, and didn't in time, is told to
+/// stay.
+fn promote_choice(state: &mut State, m: u16, planned: bool, hands_over: bool, row: Option<Row>)
     ensures { state.new ≡ record state.old {
       frames = added state.old.frames
-          (promote_frames state.old.plan m row (choice_of (failover_of state.old.core m).state));
+          (promote_frames state.old.plan state.old.core m planned hands_over row (choice_of (failover_of state.old.core m).state));
     } }
 {
     let choice = state.core.choice(m);
-    let target = state.plan.node_name(m, choice.unwrap_or(0) as usize);
-    state.frames.push_if(
-        is_promotion(row) && choice.is_some(),
-        Frame::PromoteTo(target),
-    );
+    let order = order_to(state, m, choice.unwrap_or(0) as usize, hands_over);
+    state
+        .frames
+        .push_if(is_promotion(row) && choice.is_some(), order);
+    let place = state.core.card_place(&state.plan, m);
+    let stay = Frame::HandOverTo {
+        target: state.plan.node_name(m, place),
+        heir: None,
+    };
+    state.frames.push_if(planned && is_too_late(row), stay);
+    state
+        .core
+        .note_master_if(planned && is_too_late(row), m, MasterNotice::Stays);
 }
 
 /// Tells replicas to follow the new master, by address.

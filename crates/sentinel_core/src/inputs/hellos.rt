@@ -3,14 +3,14 @@
 ghost use Rattle.std.specs.Prelude.{◌≡◌};
 ghost use Rattle.ballot_law.specs.Clocks.{clock};
 ghost use Rattle.ballot_law.specs.Rosters.{master_named};
-ghost use Rattle.sentinel_rules.specs.News.{is_newer, raised_to, adopted, hello_of_known, hello_heeded, hello_read};
+ghost use Rattle.sentinel_rules.specs.News.{is_newer, raised_to, adopted, greeted, hello_of_known, hello_heeded, hello_read};
 ghost use Rattle.sentinel_rules.specs.Plans.{roster_of};
 ghost use Rattle.sentinel_state.specs.Parts.{with_part};
 
 use crate::inputs::cards::take_card;
 use ballot_law::{Card, Hello};
 use node_texts::TextFault;
-use sentinel_state::{Core, State};
+use sentinel_state::{Core, Plan, State};
 
 /// Whether a configuration has a greater epoch than the kept one, and names a node of the master.
 fn is_newer(state: &State, m: u16, card: Card) -> bool
@@ -44,7 +44,19 @@ fn hear_hello(state: &mut State, m: u16, now: u64, hello: &Hello)
 {
     raise(&mut state.core, m, hello.current);
     if is_newer(state, m, hello.card) {
+        state.core.note_source(m, hello);
         adopt(state, m, now, hello.card);
+    }
+}
+
+/// When the last hello of a Sentinel came is kept.
+fn greet(core: &mut Core, plan: &Plan, now: u64, hello: &Hello)
+    ensures { core.new ≡ greeted plan.now (clock now) hello.now core.old }
+{
+    if let Some(place) = plan.candidate_place(Some(hello.id)) {
+        let mut peer = core.peer(place);
+        peer.greet(now);
+        core.set_peer(place, peer);
     }
 }
 
@@ -54,6 +66,7 @@ fn heed_hello(state: &mut State, now: u64, hello: &Hello)
         (master_named (roster_of state.old.plan) hello.now.master) hello.now state.old.core) }
 {
     if let Some(m) = state.plan.master_named(&hello.master) {
+        greet(&mut state.core, &state.plan, now, hello);
         hear_hello(state, m, now, hello);
     }
 }

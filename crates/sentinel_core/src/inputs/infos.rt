@@ -1,18 +1,21 @@
 //! INFO of data nodes: news for a failover, or a node that is wrong.
 
-ghost use Rattle.std.specs.Prelude.{◌≡◌, ◌≤◌};
+ghost use Rattle.std.specs.Prelude.{◌≡◌, ◌≤◌, Some};
 ghost use Rattle.ballot_law.specs.declared.rosters.TheConstants.{NODES_MAX};
 ghost use Rattle.ballot_law.specs.Clocks.{clock};
-ghost use Rattle.sentinel_rules.specs.News.{promotion, follows, follows_another, has_followed, reconfiguration, is_master_role, is_reconfiguring, wrong_since, is_overdue, says_master, can_be_followed, anew, correction, judged, info_kept, info_at_node, info_read};
-ghost use Rattle.sentinel_rules.specs.States.{failover_of};
+ghost use Rattle.node_texts.specs.Announced.{is_announced};
+ghost use Rattle.node_texts.specs.Infos.{info_of};
+ghost use Rattle.sentinel_rules.specs.News.{closing_frames, promotion, follows, follows_another, has_followed, reconfiguration, is_reconfiguring, wrong_since, is_overdue, can_be_followed, anew, correction, judged, info_kept, info_at_node, info_read, announced_at};
+ghost use Rattle.sentinel_rules.specs.States.{failover_of, is_master_role, says_master};
+ghost use Rattle.sentinel_state.specs.Nodes.Room.{added};
 ghost use Rattle.sentinel_state.specs.Parts.{with_part};
 
 use crate::inputs::cards::take_card;
-use ballot_law::{Addr, Card, DataRole, Info, NodeName, clock_of};
+use ballot_law::{Addr, Card, DataRole, Info, NodeName, NodePlace, clock_of};
 use failover_states::FailoverState;
-use node_texts::TextFault;
+use node_texts::{is_announced, read_info};
 use sentinel_rules::{Frame, WRONG_ROLE_MS};
-use sentinel_state::{Core, State};
+use sentinel_state::{Core, ReplicaNotice, State};
 
 /// Whether this is the role of a master.
 fn is_master(role: DataRole) -> bool
@@ -102,9 +105,32 @@ fn keep_info(core: &mut Core, m: u16, k: u16, now: u64, info: &Info)
     core.set_node(m, k as usize, node);
 }
 
+/// After a switch that a client asked for has the clients of both nodes sent away, so that they ask for the master
+/// anew.
+#[tactic(auto, using(sentinel_state::proofs::NodesLemmas::RoomLemmas::added_both))]
+fn close_clients(state: &mut State, m: u16, heir: usize, old: usize, planned: bool)
+    requires { (heir ≤ NODES_MAX) × (old ≤ NODES_MAX) }
+    ensures { state.new ≡ record state.old {
+      frames
+          = added state.old.frames (closing_frames state.old.plan m heir old planned);
+    } }
+{
+    state
+        .core
+        .note_replica_if(planned, m, old as u16, ReplicaNotice::Converted);
+    let heir = state.plan.node_name(m, heir);
+    state.frames.push_if(planned, Frame::PromoteTo(heir));
+    let target = state.plan.node_name(m, old);
+    state
+        .frames
+        .push_if(planned, Frame::FollowTo { target, master: m });
+}
+
 /// Takes the INFO of a node while a failover runs that may await a promotion: where the chosen replica says that it is
 /// a master, the campaign's epoch and the replica's address are the master's configuration.
+#[tactic(auto, using(sentinel_state::proofs::NodesLemmas::RoomLemmas::added_both))]
 fn hear_promotion(state: &mut State, m: u16, k: u16, now: u64, info: &Info)
+    requires { k ≤ NODES_MAX }
     ensures { state.new ≡ with_part state.old (promotion state.old.plan m k (clock now) info.now (failover_of state.old.core m).state state.old.core) }
 {
     if let FailoverState::WaitPromotion { epoch, choice, .. } = state.core.stage(m)
@@ -112,8 +138,12 @@ fn hear_promotion(state: &mut State, m: u16, k: u16, now: u64, info: &Info)
         && is_master(info.role)
     {
         let addr = choice.addr;
+        let planned = state.core.is_planned(m);
+        let old = state.core.card_place(&state.plan, m);
+        state.core.note_replica(m, k, ReplicaNotice::Promoted);
         state.core.set_promoted(m, now);
         take_card(state, m, now, Card { epoch, addr });
+        close_clients(state, m, k as usize, old, planned);
     }
 }
 
@@ -155,6 +185,12 @@ fn correct(state: &mut State, m: u16, k: u16, now: u64, info: &Info)
     node.wrong_role = anew(role_told, at, role);
     node.wrong_address = anew(address_told, at, address);
     state.core.set_node(m, k as usize, node);
+    state
+        .core
+        .note_replica_if(role_told, m, k, ReplicaNotice::Converted);
+    state
+        .core
+        .note_replica_if(address_told, m, k, ReplicaNotice::Corrected);
     let target = state.plan.node_name(m, k as usize);
     state.frames.push_if(
         role_told || address_told,
@@ -189,14 +225,23 @@ fn hear_info(state: &mut State, m: u16, k: u16, now: u64, info: &Info)
     }
 }
 
-/// Takes the INFO of a data node, as it was read. One that can't be read, or that isn't of a data node of the roster,
-/// changes nothing.
-pub fn take_info(state: &mut State, node: NodeName, now: u64, info: Result<Info, TextFault>)
-    ensures { state.new ≡ with_part state.old (info_read state.old.plan node (clock now) info state.old.core) }
+/// Whether a node may be told to clients is kept.
+fn announce(core: &mut Core, at: NodePlace, announced: bool)
+    ensures { core.new ≡ announced_at announced (Some at) core.old }
 {
-    if let Ok(info) = info
+    let mut node = core.node(at.master, at.place as usize);
+    node.announce(announced);
+    core.set_node(at.master, at.place as usize, node);
+}
+
+/// Takes the INFO of a data node. One that can't be read, or that isn't of a data node of the roster, changes nothing.
+pub fn take_info(state: &mut State, node: NodeName, now: u64, text: &[u8])
+    ensures { state.new ≡ with_part state.old (info_read state.old.plan node (clock now) (info_of text.now) (is_announced text.now) state.old.core) }
+{
+    if let Ok(info) = read_info(text)
         && let Some(at) = state.plan.node_named(node)
     {
+        announce(&mut state.core, at, is_announced(text));
         hear_info(state, at.master, at.place, now, &info);
     }
 }

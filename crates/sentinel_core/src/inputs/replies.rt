@@ -2,7 +2,7 @@
 
 ghost use Rattle.std.specs.Prelude.{◌≡◌};
 ghost use Rattle.ballot_law.specs.Clocks.{clock};
-ghost use Rattle.sentinel_rules.specs.News.{answered, pinged_at, pinged, lost_at, connection_lost, disconnected};
+ghost use Rattle.sentinel_rules.specs.News.{answered, pinged_at, pinged, lost_at, connection_lost, disconnected, refusal_at, refusal_heard};
 ghost use Rattle.sentinel_rules.specs.Plans.{node_named};
 
 use ballot_law::{Addr, NodeName, PingReply, RunId};
@@ -123,5 +123,29 @@ pub fn hear_loss(state: &mut State, node: NodeName)
 {
     if state.plan.profile().is_redis() {
         lose_connection(state, node);
+    }
+}
+
+/// Takes it that a data node refused to hand over, where that was asked of it in a failover whose choice is awaited.
+fn refuse_at(state: &mut State, node: NodeName)
+    ensures { state.new ≡ record state.old {
+      core
+          = refusal_at state.old.plan (node_named state.old.plan node) state.old.core;
+    } }
+{
+    if let Some(at) = state.plan.node_named(node)
+        && state.core.is_handed(at.master)
+        && at.place as usize == state.core.card_place(&state.plan, at.master)
+    {
+        state.core.refuse(at.master);
+    }
+}
+
+/// Takes it that a data node refused to hand over; by the strict rules this changes nothing.
+pub fn hear_refusal(state: &mut State, node: NodeName)
+    ensures { state.new ≡ record state.old { core = refusal_heard state.old.plan node state.old.core } }
+{
+    if state.plan.profile().is_redis() {
+        refuse_at(state, node);
     }
 }

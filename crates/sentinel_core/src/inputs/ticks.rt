@@ -20,6 +20,7 @@ pub fn tick(state: &mut State, m: u16, random: u64, now: u64)
     state.core.read_clock(random, now);
     if m < state.plan.master_count() {
         tick_master(state, m, now);
+        note_rest(state, m, now);
     }
 }
 
@@ -57,7 +58,15 @@ fn find_odown(state: &mut State, m: u16, now: u64, down: bool)
     ensures { state.new ≡ with_part state.old (odown_part state.old.plan m (clock now) state.old.core) }
 {
     let odown = state.core.is_odown(&state.plan, m, now, down);
-    state.core.set_odown(m, odown);
+    state.core.set_odown(m, now, odown);
+    state.core.note_down(m, down, odown);
+}
+
+/// Notes what else the tick found.
+fn note_rest(state: &mut State, m: u16, now: u64)
+    ensures { state.new ≡ state.old }
+{
+    state.core.note_rest(&state.plan, m, now);
 }
 
 /// A start where one is due, a row where a failover runs, and the questions to the other Sentinels.

@@ -3,13 +3,14 @@
 ghost use Rattle.std.specs.Prelude.{◌≡◌, map, unwrap_or};
 ghost use Rattle.ballot_law.specs.Clocks.{clock};
 ghost use Rattle.sentinel_rules.specs.declared.assumed.TheConstants.{ASSUMED_INFO};
-ghost use Rattle.sentinel_rules.specs.News.{hello_soon, moved, node_lost, node_pinged, with_info};
+ghost use Rattle.sentinel_rules.specs.News.{hello_soon, moved, node_announced, node_lost, node_pinged, with_info};
 ghost use Rattle.sentinel_rules.specs.States.{new_node};
 
+use crate::nodes::contacts::{hear_reply, new_contact, role_since};
 use ballot_law::{Info, PingReply, clock_of};
 use down_detector::Watch;
 use replica_choice::Candidate;
-use sentinel_rules::ASSUMED_INFO;
+use sentinel_rules::{ASSUMED_INFO, Contact};
 use std::marker::Model;
 
 /// What is kept of a data node. Moments are readings of the Sentinel's clock in milliseconds, at most 2^62.
@@ -30,6 +31,11 @@ pub struct Node {
     pub wrong_address: Option<u64>,
     /// Whether of a connection to it was last heard that it was lost.
     pub lost: bool,
+    /// For those who ask: how its connection stands, since when it has said that it has its role, and whether it may be
+    /// told to clients.
+    pub contact: Contact,
+    pub role_since: u64,
+    pub announced: bool,
 }
 
 impl Model for Node {
@@ -48,6 +54,9 @@ impl Model for Node {
       wrong_role = node.wrong_role;
       wrong_address = node.wrong_address;
       lost = node.lost;
+      contact = node.contact;
+      role_since = node.role_since;
+      announced = node.announced;
     } };
 
     ghost inverse = { λ node. record {
@@ -61,6 +70,9 @@ impl Model for Node {
       wrong_role = node.wrong_role;
       wrong_address = node.wrong_address;
       lost = node.lost;
+      contact = node.contact;
+      role_since = node.role_since;
+      announced = node.announced;
     } };
 }
 
@@ -80,6 +92,9 @@ impl Node {
             wrong_role: None,
             wrong_address: None,
             lost: false,
+            contact: new_contact(now),
+            role_since: clock_of(now),
+            announced: true,
         }
     }
 
@@ -89,6 +104,7 @@ impl Node {
     {
         self.watch.heard(now, reply);
         self.lost = false;
+        hear_reply(&mut self.contact, now, reply);
         match reply {
             PingReply::Pong | PingReply::Loading | PingReply::MasterDown => {
                 self.last_ping = Some(clock_of(now));
@@ -101,10 +117,18 @@ impl Node {
     pub fn keep_info(&mut self, now: u64, info: &Info)
         ensures { self.new ≡ with_info (clock now) info.now self.old }
     {
+        self.role_since = role_since(now, info.role, self.info, self.role_since);
         self.info = Some(*info);
         self.info_at = Some(clock_of(now));
         self.watch.reported(now, info.role);
         self.lost = false;
+    }
+
+    /// Whether it may be told to clients is kept.
+    pub fn announce(&mut self, announced: bool)
+        ensures { self.new ≡ node_announced announced self.old }
+    {
+        self.announced = announced;
     }
 
     /// A connection to it was lost.

@@ -2,20 +2,24 @@
 
 ghost use Rattle.std.specs.Prelude.{◌≡◌};
 ghost use Rattle.ballot_law.specs.Clocks.{clock};
-ghost use Rattle.sentinel_rules.specs.News.{peer_lost, peer_pinged};
+ghost use Rattle.sentinel_rules.specs.News.{peer_greeted, peer_lost, peer_pinged};
 ghost use Rattle.sentinel_rules.specs.States.{new_peer};
 
-use ballot_law::PingReply;
+use crate::nodes::contacts::{hear_reply, new_contact};
+use ballot_law::{PingReply, clock_of};
 use down_detector::Watch;
+use sentinel_rules::Contact;
 use std::marker::Model;
 
 /// What is kept of a Sentinel of the roster: its watch, when it was last sent a PING, and whether of a connection to it
-/// was last heard that it was lost.
+/// was last heard that it was lost. For those who ask: how its connection stands, and when its last hello came.
 #[derive(Clone, Copy)]
 pub struct Peer {
     pub watch: Watch,
     pub ping_sent: Option<u64>,
     pub lost: bool,
+    pub contact: Contact,
+    pub greeted: u64,
 }
 
 impl Model for Peer {
@@ -23,9 +27,9 @@ impl Model for Peer {
 
     ghost Value = { PeerState };
 
-    ghost view = { λ peer. record { watch = peer.watch; ping_sent = peer.ping_sent; lost = peer.lost } };
+    ghost view = { λ peer. record { watch = peer.watch; ping_sent = peer.ping_sent; lost = peer.lost; contact = peer.contact; greeted = peer.greeted } };
 
-    ghost inverse = { λ peer. record { watch = peer.watch; ping_sent = peer.ping_sent; lost = peer.lost } };
+    ghost inverse = { λ peer. record { watch = peer.watch; ping_sent = peer.ping_sent; lost = peer.lost; contact = peer.contact; greeted = peer.greeted } };
 }
 
 impl Peer {
@@ -37,6 +41,8 @@ impl Peer {
             watch: Watch::new(now),
             ping_sent: None,
             lost: false,
+            contact: new_contact(now),
+            greeted: clock_of(now),
         }
     }
 
@@ -46,6 +52,14 @@ impl Peer {
     {
         self.watch.heard(now, reply);
         self.lost = false;
+        hear_reply(&mut self.contact, now, reply);
+    }
+
+    /// Its hello came.
+    pub fn greet(&mut self, now: u64)
+        ensures { self.new ≡ peer_greeted (clock now) self.old }
+    {
+        self.greeted = clock_of(now);
     }
 
     /// A connection to it was lost.

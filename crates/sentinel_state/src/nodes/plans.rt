@@ -40,7 +40,7 @@ impl Model for Plan {
 }
 
 /// The first place of an address among these nodes.
-fn position_of(nodes: &[Addr], addr: Addr) -> Option<usize>
+pub(crate) fn position_of(nodes: &[Addr], addr: Addr) -> Option<usize>
     ensures value { result ≡ position (same_addr addr) nodes.now }
     ensures within { IfSome result (λ place. place < length nodes.now) }
 {

@@ -1,18 +1,20 @@
 //! What is due to be sent: PINGs to the other Sentinels; PINGs, INFO and hellos to the data nodes.
 
-ghost use Rattle.std.specs.Prelude.{◌≡◌, ◌≤◌, length};
+ghost use Rattle.std.specs.Prelude.{◌≡◌, ◌≤◌, length, if◌then◌else◌};
+ghost use Rattle.sentinel_rules.specs.declared.periods.TheConstants.{BUSY_INFO_MS, HEIR_INFO_MS, INFO_MS};
 ghost use Rattle.ballot_law.specs.declared.rosters.TheConstants.{NODES_MAX, SENTINELS_MAX};
 ghost use Rattle.ballot_law.specs.Clocks.{clock};
 ghost use Rattle.sentinel_rules.specs.Parts.{changed_from, frames_from};
-ghost use Rattle.sentinel_rules.specs.Ticks.{is_due, sent_at, ping_period, is_peer_due, peer_after, peer_frames, had_link_down, is_ping_due, is_info_due, is_hello_due, node_after, node_frames};
+ghost use Rattle.sentinel_rules.specs.Ticks.{is_due, sent_at, ping_period, is_peer_due, peer_after, peer_frames, had_link_down, is_at, is_ping_due, is_info_due, is_hello_due, node_after, node_frames};
 ghost use Rattle.sentinel_state.specs.Nodes.Room.{added};
 
+use crate::nodes::contacts::wait;
 use crate::nodes::frame_list::FrameList;
 use crate::nodes::node::Node;
 use crate::nodes::peers::Peer;
 use crate::nodes::plans::Plan;
 use ballot_law::{Info, NodeName};
-use sentinel_rules::{BUSY_INFO_MS, Frame, HELLO_MS, INFO_MS, PING_MS};
+use sentinel_rules::{BUSY_INFO_MS, Frame, HEIR_INFO_MS, HELLO_MS, INFO_MS, PING_MS};
 use std::marker::Model;
 
 /// Whether what was last sent at that moment is to be sent again: it never was, or at a later reading, or so long ago.
@@ -56,6 +58,7 @@ impl Peer {
         let due = self.is_ping_due(plan, now, place);
         frames.push_if(due, Frame::PingTo(NodeName::SentinelAt(place as u16)));
         self.ping_sent = sent_at(due, now, self.ping_sent);
+        wait(&mut self.contact, due, now);
     }
 }
 
@@ -81,6 +84,8 @@ pub struct Sending {
     pub card_place: usize,
     /// Whether the master was objectively down at its last tick, or fails over.
     pub is_busy: bool,
+    /// The place of the replica to which the master was told to hand over.
+    pub heir: Option<u16>,
 }
 
 impl Model for Sending {
@@ -93,6 +98,7 @@ impl Model for Sending {
       ping_ms = s.ping_ms;
       card_place = s.card_place;
       is_busy = s.is_busy;
+      heir = s.heir;
     } };
 
     ghost inverse = { λ s. record {
@@ -100,6 +106,7 @@ impl Model for Sending {
       ping_ms = s.ping_ms;
       card_place = s.card_place;
       is_busy = s.is_busy;
+      heir = s.heir;
     } };
 }
 
@@ -113,6 +120,26 @@ fn had_link_down(info: Option<Info>) -> bool
     }
 }
 
+/// Whether this is the place.
+fn is_at(place: Option<u16>, k: usize) -> bool
+    ensures { result ≡ is_at place k }
+{
+    match place {
+        Some(place) => k == place as usize,
+        None => false,
+    }
+}
+
+/// How often INFO is sent to a node: to the one to which the master hands over, to one that is asked soon, or to any.
+fn info_period(is_heir: bool, is_soon: bool) -> u64
+    ensures { result ≡ if is_heir then HEIR_INFO_MS else (if is_soon then BUSY_INFO_MS else INFO_MS) }
+{
+    if is_heir {
+        return HEIR_INFO_MS;
+    }
+    if is_soon { BUSY_INFO_MS } else { INFO_MS }
+}
+
 impl Node {
     /// Whether a PING is due: each second, or as often as the master's setting asks.
     fn is_ping_due(&self, sending: Sending) -> bool
@@ -121,14 +148,17 @@ impl Node {
         is_due(self.ping_sent, sending.now, sending.ping_ms)
     }
 
-    /// Whether INFO is due of the node at a place: each 10 seconds, and each second of a replica whose master is down
-    /// or fails over, or whose link was down.
+    /// Whether INFO is due of the node at a place: each 10 seconds, each second of a replica whose master is down or
+    /// fails over, or whose link was down, and ten times a second of the one to which the master hands over.
     fn is_info_due(&self, sending: Sending, k: usize) -> bool
         ensures { result ≡ is_info_due sending k self.now }
     {
         let is_soon = k != sending.card_place && (sending.is_busy || had_link_down(self.info));
-        let period = if is_soon { BUSY_INFO_MS } else { INFO_MS };
-        is_due(self.info_sent, sending.now, period)
+        is_due(
+            self.info_sent,
+            sending.now,
+            info_period(is_at(sending.heir, k), is_soon),
+        )
     }
 
     /// Whether a hello is due: each 2 seconds.
@@ -162,6 +192,7 @@ impl Node {
             },
         );
         self.ping_sent = sent_at(ping, sending.now, self.ping_sent);
+        wait(&mut self.contact, ping, sending.now);
         self.info_sent = sent_at(info, sending.now, self.info_sent);
         self.hello_sent = sent_at(hello, sending.now, self.hello_sent);
     }

@@ -3,6 +3,7 @@
 ghost use Rattle.std.specs.Prelude.{◌≡◌, All, IfSome};
 
 use crate::tests::confs::{Paired, both_of, free_port, text_of_one};
+use client_port::ReadsTimes;
 use log::Log;
 use sentinel_conf::{Conf, MemoryStore, read};
 use sentinel_runner::{GroupFault, run_group};
@@ -48,7 +49,7 @@ fn pair<R: Net>(rt: &R, alloc: Global, quorums: (u32, u32)) -> Option<Vec<Conf>>
 }
 
 /// Runs a group that is to end at once.
-fn run_to_end<R: Threads + Wait + Net + Clock + Log + Sync>(
+fn run_to_end<R: Threads + Wait + Net + Clock + ReadsTimes + Log + Sync>(
     rt: &R,
     alloc: Global,
     confs: Vec<Conf>,

@@ -3,6 +3,7 @@
 ghost use Rattle.std.specs.Prelude.{◌≡◌, All, IfSome};
 
 use crate::tests::confs::{free_port, text_of_one};
+use client_port::ReadsTimes;
 use log::kv::Source;
 use log::span::Spans;
 use log::{Level, LevelFilter, Log, Logged, Metadata, Record};
@@ -128,7 +129,7 @@ fn one(alloc: Global, text: &str) -> Option<(Vec<Conf>, Vec<MemoryStore>)>
 }
 
 /// Runs a group by the orders of the input: how it ended.
-fn run_by_input<R: Threads + Wait + Net + Clock + Log + Sync>(
+fn run_by_input<R: Threads + Wait + Net + Clock + ReadsTimes + Log + Sync>(
     rt: &R,
     alloc: Global,
     counts: &Counts,

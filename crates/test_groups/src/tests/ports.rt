@@ -4,6 +4,7 @@ ghost use Rattle.std.specs.Prelude.{◌≡◌, All, IfSome};
 
 use crate::tests::clients::{ADDRESS, ADDRESS_AND_FAULT, connected};
 use crate::tests::confs::{free_port, text_of_one};
+use client_port::ReadsTimes;
 use log::Log;
 use sentinel_conf::{Conf, MemoryStore, read};
 use sentinel_rules::Profile;
@@ -32,7 +33,7 @@ fn talk<T: Read + Write>(alloc: Global, stream: &mut T) -> io::Result<Vec<u8>> {
 }
 
 /// Runs a group beside a client: what the client got, and how the group ended.
-fn beside<R: Threads + Wait + Clock + Log + Sync, T: Read + Write + Drop + Send>(
+fn beside<R: Threads + Wait + Clock + ReadsTimes + Log + Sync, T: Read + Write + Drop + Send>(
     rt: &R,
     alloc: Global,
     group: Group<MemoryStore>,
@@ -80,7 +81,7 @@ fn an_address_and_a_protocol_error(rt: HostRuntime) -> Result<(), Fail> {
 }
 
 /// Runs a group beside two clients, of which one talks after the other: what they got, and how the group ended.
-fn beside_two<R: Threads + Wait + Clock + Log + Sync, T: Read + Write + Drop + Send>(
+fn beside_two<R: Threads + Wait + Clock + ReadsTimes + Log + Sync, T: Read + Write + Drop + Send>(
     rt: &R,
     alloc: Global,
     group: Group<MemoryStore>,

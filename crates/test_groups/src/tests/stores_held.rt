@@ -5,6 +5,7 @@ ghost use Rattle.std.specs.Prelude.{◌≡◌, All, IfSome};
 use crate::tests::clients::{connected, vote_of, voted_in};
 use crate::tests::confs::{Paired, both_of, free_port};
 use crate::tests::told_files::{Told, ToldFile};
+use client_port::ReadsTimes;
 use log::Log;
 use sentinel_runner::{Group, GroupFault};
 use std::alloc::Global;
@@ -56,7 +57,11 @@ fn ask_for_each<T: Read + Write>(
 }
 
 /// Runs a group while both are asked.
-fn ask_beside<'a, R: Threads + Wait + Clock + Log + Sync, T: Read + Write + Drop + Send>(
+fn ask_beside<
+    'a,
+    R: Threads + Wait + Clock + ReadsTimes + Log + Sync,
+    T: Read + Write + Drop + Send,
+>(
     rt: &'a R,
     alloc: Global,
     group: Group<ToldFile<'a, R>>,

@@ -5,6 +5,7 @@ ghost use Rattle.std.specs.Prelude.{◌≡◌, All, IfSome};
 use crate::tests::clients::{MASTER, REPLICAS, SENTINELS, connected, shows_down};
 use crate::tests::confs::{Paired, both_of, free_port};
 use crate::tests::told_files::{MOST_LOOKS, Told, ToldFile, wait_for};
+use client_port::ReadsTimes;
 use log::Log;
 use sentinel_conf::Conf;
 use sentinel_runner::{Group, GroupFault, run_group};
@@ -73,7 +74,11 @@ fn look<R: Clock, T: Read + Write>(
 }
 
 /// Runs a group while it is looked at.
-fn look_beside<'a, R: Threads + Wait + Clock + Log + Sync, T: Read + Write + Drop + Send>(
+fn look_beside<
+    'a,
+    R: Threads + Wait + Clock + ReadsTimes + Log + Sync,
+    T: Read + Write + Drop + Send,
+>(
     rt: &'a R,
     group: Group<ToldFile<'a, R>>,
     mut stream: T,
@@ -148,7 +153,7 @@ struct Given<'a, C: Clock> {
 
 impl<'a, C: Clock + Sync> Given<'a, C> {
     /// Runs the group from its opening to its end.
-    fn run<R: Threads + Wait + Net + Clock + Log + Sync>(
+    fn run<R: Threads + Wait + Net + Clock + ReadsTimes + Log + Sync>(
         self,
         rt: &R,
         alloc: Global,
@@ -161,7 +166,7 @@ impl<'a, C: Clock + Sync> Given<'a, C> {
 
 /// Runs a group while its files are looked at, which end it: whether a hello was heard and a question asked, and how
 /// the group ended.
-fn run_beside<'a, R: Threads + Wait + Net + Clock + Log + Sync>(
+fn run_beside<'a, R: Threads + Wait + Net + Clock + ReadsTimes + Log + Sync>(
     rt: &'a R,
     alloc: Global,
     given: Given<'a, R>,

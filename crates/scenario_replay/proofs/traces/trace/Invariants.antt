@@ -7,7 +7,7 @@ use Rattle.scenario_replay.proofs.traces.trace.Given as goal
 abbrev pub invariant-loop-rest : goal.invariant-loop-rest
 invariant-loop-rest g l =
     record {
-      traced : TracedTo l.world.roster l.scenario l.rest (IsShown (λ m. m.name)
+      traced : TracedTo l.fn.profile l.world.roster l.scenario l.rest (IsShown (λ m. m.name)
           (λ m. IsSeat m.name ((goal.Node-dyn g (m.node.vtable, m.node.value)).name m.node.value) ((goal.Node-dyn g (m.node.vtable, m.node.value)).shows m.node.value)
           m.outbox.held m.stopped) l.world.roster l.world.members.items l.world.messages.items);
       roster : l.world.roster ≡ l.fn.world.roster;

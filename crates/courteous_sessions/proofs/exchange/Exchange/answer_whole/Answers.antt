@@ -3,10 +3,10 @@ use Rattle.courteous_sessions.specs.OnTheWay.{guest_of}
 use Rattle.courteous_sessions.proofs.Serving.{went_on, came_to_the_end}
 use Rattle.courteous_sessions.proofs.exchange.Exchange.answer_whole.Goals as goal
 
-pub loop-fault-preserved : goal.loop-fault-preserved
-loop-fault-preserved g c =
+pub loop-self-preserved : goal.loop-self-preserved
+loop-self-preserved g c =
     let start = c.args.cell.now.start in
-    let so_far = c.loop-fault.invariant in
+    let so_far = c.loop-self.invariant in
     let after = c.answer_next.new in (
       c.answer_next.ensures.own ∙ so_far.0,
       c.in-Ok-true.ensures.ready,
@@ -25,7 +25,7 @@ pub returns-in-Ok-false-clause-answered : goal.returns-in-Ok-false-clause-answer
 returns-in-Ok-false-clause-answered g c = λ stream before bytes visitor is a.
     let start = c.args.cell.now.start in
     let after = c.answer_next.new in
-    let on = c.loop-fault.invariant.3 stream before bytes visitor is a in
+    let on = c.loop-self.invariant.3 stream before bytes visitor is a in
     let next = c.in-Ok-false.ensures.answered stream before on.0 visitor on.1 on.2 in (
       next.0,
       next.1,
@@ -35,5 +35,5 @@ returns-in-Ok-false-clause-answered g c = λ stream before bytes visitor is a.
 
 pub returns-in-Err-clause-answered : goal.returns-in-Err-clause-answered
 returns-in-Err-clause-answered g c = λ stream before bytes visitor is a.
-    let on = c.loop-fault.invariant.3 stream before bytes visitor is a in
+    let on = c.loop-self.invariant.3 stream before bytes visitor is a in
     c.in-Err.ensures.answered stream before on.0 visitor on.1 on.2

@@ -5,8 +5,8 @@ use Rattle.courteous_sessions.specs.OnTheWay.{IsReady, IsOnTheWay, guest_of}
 use Rattle.courteous_sessions.proofs.exchange.Exchange.answer_whole.Given as goal
 
 -- the session below is ready, and what was on the way is so still, with more answers
-abbrev pub invariant-loop-fault : goal.invariant-loop-fault
-invariant-loop-fault g l =
+abbrev pub invariant-loop-self : goal.invariant-loop-self
+invariant-loop-self g l =
     (l.seat.cell ≡ l.initial.seat.cell)
     × IsReady l.self.attendant l.self.subscriptions l.self.session
     × (l.self.knows_masters ≡ l.initial.self.knows_masters)
@@ -16,5 +16,5 @@ invariant-loop-fault g l =
     → (more : List ℕ) × (l.self.unsent.items ≡ before ++ more)
     × IsOnTheWay l.fn.cell.start l.fn.now stream visitor l.self.attendant.held more (guest_of l.self.attendant l.self.subscriptions l.self.session l.seat.view))
 
-abbrev pub decreases-loop-fault : goal.decreases-loop-fault
-decreases-loop-fault g l = held_size l.self.attendant.held
+abbrev pub decreases-loop-self : goal.decreases-loop-self
+decreases-loop-self g l = held_size l.self.attendant.held

@@ -1,5 +1,4 @@
-use Rattle.std.proofs.Common.{◌∙◌, List, ap, map, length}
-use Rattle.ballot_law.specs.declared.rosters.Member.{Member}
+use Rattle.std.proofs.Common.{◌∙◌, ap, map}
 use Rattle.ballot_law.specs.Rosters.{Roster}
 use Rattle.courteous_sessions.specs.Visits.{monitored}
 use Rattle.courteous_sessions.proofs.Stepping.{introduced_now}
@@ -8,5 +7,4 @@ use Rattle.courteous_sessions.proofs.exchange.Exchange.learn_masters.Goals as go
 pub returns-in-Ok-clause-attendant : goal.returns-in-Ok-clause-attendant
 returns-in-Ok-clause-attendant g c =
     introduced_now c.args.cell.now.start c.args.self.now.knows_masters c.args.self.now.attendant c.note_masters.new.self c.in-Ok.masters.items
-    (length c.sentinels-sentinels.result.now) c.if-self.false (c.in-Ok.ensures ∙ ap (λ (r : Roster). map monitored r.masters) c.roster.ensures)
-    (ap (λ (ms : List Member). length ms) c.sentinels-sentinels.ensures ∙ ap (λ (r : Roster). length r.sentinels) c.roster-in-Ok.ensures) c.note_masters.ensures
+    c.if-self.false (c.in-Ok.ensures ∙ ap (λ (r : Roster). map monitored r.masters) c.roster.ensures) c.note_masters.ensures

@@ -13,7 +13,7 @@ returns-clause-answered g c =
     on_ok c.put_out.result
     (λ put.
     let told = ok_of c.inform.result (sym c.is_err.ensures.value ∙ c.if-is_err.false) c.inform.ensures.text in
-    masters_told c.args.cell.now.start c.args.now (view c.args.value.now) before.session asked kept.session c.args.seat.now.view c.ask.new.seat.view before.unsent.items
+    masters_told c.args.cell.now.start c.args.now before.attendant.asker.port.figures (view c.args.value.now) before.session asked kept.session c.args.seat.now.view c.ask.new.seat.view before.unsent.items
     c.put_out.new.unsent.items kept.attendant.text c.in_ok-ask.ensures.answered c.in_ok-ask.ensures.goes_on
     (c.drop_answers.ensures.session ∙ ap (λ (t : Talk). let s : Talk = record t { unsent = [] } in s) c.inform.ensures.session)
     (told.0, told.1, ap (λ (a : Attendance). a.text) c.drop_answers.ensures.attendant ∙ told.2)

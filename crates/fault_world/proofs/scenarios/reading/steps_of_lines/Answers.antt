@@ -8,15 +8,16 @@ use Rattle.fault_world.proofs.scenarios.reading.steps_of_lines.Goals as goal
 
 pub loop-rest-preserved : goal.loop-rest-preserved
 loop-rest-preserved c =
+    let profile = c.args.profile in
     let n = c.loop-rest.number in
     let before = c.loop-rest.steps.items in
     let line = c.split_line.result.0.now in
     let more = lines c.split_line.result.1.now in
     let told = steps_of c.in-Ok.told in
-    let meant : line_of line ≡ Ok told = ⊎_elim (λ e. absurd (cc)) (λ h. sym h) c.in-Ok.ensures.line in
+    let meant : line_of profile line ≡ Ok told = ⊎_elim (λ e. absurd (cc)) (λ h. sym h) c.in-Ok.ensures.line in
     record {
-      told = c.loop-rest.invariant.told ∙ ap (λ t. behind before (steps_from n t)) c.split_line.ensures.lines ∙ one_more n line more before told meant
-          ∙ ap (λ t. behind t (steps_from (n + 1) more)) (sym c.in_ok-add-in-Ok.ensures.added);
+      told = c.loop-rest.invariant.told ∙ ap (λ t. behind before (steps_from profile n t)) c.split_line.ensures.lines ∙ one_more profile n line more before told meant
+          ∙ ap (λ t. behind t (steps_from profile (n + 1) more)) (sym c.in_ok-add-in-Ok.ensures.added);
       within = c.in_ok-add-in-Ok.ensures.within;
       counted = let shorter = c.split_line.ensures.shorter in let left = c.loop-rest.invariant.counted in omega (arith, shorter, left);
     }

@@ -6,7 +6,7 @@ use Rattle.fault_world.proofs.scenarios.reading.steps_of_lines.Given as goal
 
 abbrev pub invariant-loop-rest : goal.invariant-loop-rest
 invariant-loop-rest l = record {
-  told : steps_from 1 (lines l.fn.text) ≡ behind l.steps.items (steps_from l.number (lines l.rest));
+  told : steps_from l.fn.profile 1 (lines l.fn.text) ≡ behind l.steps.items (steps_from l.fn.profile l.number (lines l.rest));
   within : All IsWithinStep l.steps.items;
   counted : l.number + length l.rest ≤ length l.fn.text + 1;
 }

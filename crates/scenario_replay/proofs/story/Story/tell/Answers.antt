@@ -11,8 +11,8 @@ returns g c =
     record {
       steps = c.deref.result.now;
       read =
-          subst (λ text. scenario text ≡ Ok c.deref.result.now) c.as_slice.ensures.value
-          (subst (λ steps. scenario c.as_slice.result.now ≡ Ok steps) (sym c.deref.ensures.value) c.in_ok-steps.ensures.steps);
+          subst (λ text. scenario c.args.self.now.profile text ≡ Ok c.deref.result.now) c.as_slice.ensures.value
+          (subst (λ steps. scenario c.args.self.now.profile c.as_slice.result.now ≡ Ok steps) (sym c.deref.ensures.value) c.in_ok-steps.ensures.steps);
       distinct = begun.1.distinct;
       first = begun.0;
       begins = begun.1.begins;

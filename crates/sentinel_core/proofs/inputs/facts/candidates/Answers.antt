@@ -2,12 +2,12 @@ use Rattle.std.proofs.Common.{◌<◌, length, arith}
 use Rattle.std.proofs.Math.ListN.{length-set}
 use Rattle.ballot_law.specs.Clocks.{clock}
 use Rattle.sentinel_rules.specs.Ticks.{candidate_of}
-use Rattle.sentinel_core.proofs.InputsLemmas.AtPlaces.{filled_more}
+use Rattle.sentinel_state.proofs.AtPlaces.{filled_more}
 use Rattle.sentinel_core.proofs.inputs.facts.candidates.Goals as goal
 
 pub loop-k-preserved : goal.loop-k-preserved
 loop-k-preserved c =
-    let candidate = candidate_of c.args.state.now.plan c.args.state.now.core c.args.m (clock c.args.now) in
+    let candidate = candidate_of c.args.plan.now c.args.core.now c.args.m (clock c.args.now) in
     let lt : c.loop-k.k < length c.loop-k.candidates = omega arith in
     record {
       long = simp length-set c.loop-k.invariant.long;

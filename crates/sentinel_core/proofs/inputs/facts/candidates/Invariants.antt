@@ -7,5 +7,5 @@ abbrev pub invariant-loop-k : goal.invariant-loop-k
 invariant-loop-k l =
     record {
       long : length l.candidates ≡ 256;
-      filled : take l.k l.candidates ≡ at_places (candidate_of l.state.plan l.state.core l.m (clock l.now)) 0 l.k;
+      filled : take l.k l.candidates ≡ at_places (candidate_of l.plan l.core l.m (clock l.now)) 0 l.k;
     }

@@ -2,7 +2,7 @@ use Rattle.std.proofs.Common.{◌<◌, length, arith}
 use Rattle.std.proofs.Math.ListN.{length-set}
 use Rattle.ballot_law.specs.Clocks.{clock}
 use Rattle.sentinel_rules.specs.States.{is_node_down}
-use Rattle.sentinel_core.proofs.InputsLemmas.AtPlaces.{filled_more}
+use Rattle.sentinel_state.proofs.AtPlaces.{filled_more}
 use Rattle.sentinel_core.proofs.inputs.facts.down_places.Goals as goal
 
 pub loop-k-preserved : goal.loop-k-preserved

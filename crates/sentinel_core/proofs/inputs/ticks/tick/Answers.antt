@@ -15,7 +15,8 @@ returns-then-m-master_count c =
     let m = c.args.m in
     let now = clock c.args.now in
     let read = with_reading now c.args.random old.core in
-    c.tick_master.ensures
+    c.note_rest.ensures
+    ∙ c.tick_master.ensures
     ∙ ap (λ (core : Core). let x : State = record old { core = core } in with_part x (master_part old.plan m now core)) c.read_clock.ensures
     ∙ ap (λ (p : Part). with_part old p) (sym (part_below m c.master_count.result (master_count old.plan) read (master_part old.plan m now) c.if-m-master_count.true
     c.master_count.ensures.value))

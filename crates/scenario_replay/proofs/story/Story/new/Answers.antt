@@ -1,8 +1,0 @@
-use Rattle.std.proofs.Common.{refl, rules}
-use Rattle.scenario_replay.proofs.story.Story.new.Goals as goal
-
-pub returns-clause-story : goal.returns-clause-story
-returns-clause-story c = refl
-
-pub returns-in_err-_steps-clause-fault : goal.returns-in_err-_steps-clause-fault
-returns-in_err-_steps-clause-fault c = search rules

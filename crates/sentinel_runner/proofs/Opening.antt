@@ -1,0 +1,36 @@
+-- A Sentinel that is opened begins its history at the world of its conf.
+use Rattle.std.proofs.Common.{◌≡◌, ◌<◌, ℕ, List, refl, sym, subst}
+use Rattle.std.specs.Prelude.{Option, IfSome}
+use Rattle.sentinel_cell.specs.declared.keeper.Keeper.{Keeper}
+use Rattle.sentinel_cell.specs.Histories.{World, opened}
+use Rattle.sentinel_conf.specs.Meaning.{ConfPlan}
+use Rattle.sentinel_conf.specs.Rewritten.{rewritten}
+use Rattle.sentinel_rules.specs.declared.profiles.Profile.{Profile}
+use Rattle.sentinel_rules.specs.Plans.{group_size, me}
+use Rattle.sentinel_rules.specs.States.{opened as opened_core}
+use Rattle.sentinel_runner.specs.Opening.{IsOpenedBy, IsOpenedAnew}
+
+pub opens : {S : Type 0} (held : S → Option (List ℕ)) (failures : S → ℕ) (keeper : Keeper S) (conf : ConfPlan) (profile : Profile) (now : ℕ) (start : World)
+    → start ≡ opened held failures keeper → keeper.sentinel.plan.conf ≡ conf → keeper.sentinel.plan.profile ≡ profile
+    → (keeper.sentinel.plan.place < group_size keeper.sentinel.plan) × (me keeper.sentinel.plan ≡ conf.id) → keeper.sentinel.core ≡ opened_core keeper.sentinel.plan now
+    → keeper.sentinel.stored ≡ conf.kept → IsOpenedBy conf profile now (held keeper.store) start
+opens held failures keeper conf profile now start is plan by place core stored =
+    subst (IsOpenedBy conf profile now (held keeper.store)) (sym is) (record {
+      conf_is = plan;
+      profile_is = by;
+      within = place.0;
+      own_place = place.1;
+      core_is = core;
+      stored_is = stored;
+      ready = refl;
+      text_is = refl;
+    })
+
+-- with the text that was stored before
+pub opens_anew : (conf : ConfPlan) (profile : Profile) (now : ℕ) (text : Option (List ℕ)) (start : World) → IsOpenedBy conf profile now text start
+    → IfSome text (λ bytes. bytes ≡ rewritten conf conf.kept) → IsOpenedAnew conf profile now start
+opens_anew conf profile now text start opens written = record { text = text; opens = opens; written = written }
+
+-- by the profile of its port
+pub opens_as : (conf : ConfPlan) (room profile : Profile) (now : ℕ) (start : World) → room ≡ profile → IsOpenedAnew conf room now start → IsOpenedAnew conf profile now start
+opens_as conf room profile now start same opens = subst (λ (p : Profile). IsOpenedAnew conf p now start) same opens
