@@ -18,7 +18,9 @@ use Rattle.client_commands.specs.declared.choosing.ClientKind.{ClientKind}
 use Rattle.client_commands.specs.Choosing.{Wanted, Chosen, fits, unfit, anyone, kind_named, no_kind, no_number, with_spared, with_user, with_option, with_options, chosen_by}
 use Rattle.client_commands.specs.Subcommands.{sub_name, all_subs, sub_among, takes_count, not_at_runtime, no_trials, only_get}
 use Rattle.client_commands.specs.Helps.{sentinel_help, client_help, command_help}
-use Rattle.client_commands.specs.Courtesies.{ClientInfo, MonitoredMaster, Answer, left, said, asks_masters, silent, Looked, known, refused, verb_name, Greeted, greeted, expected, taken, is_user, is_password, is_some, admits, is_stranger, lacks_password, greeted_by, is_client_name, asks_for_2, is_integer, after_first, first, or_else, hello_map, answered, asks_nothing, reply_to, courtesy, left_over, or_left}
+use Rattle.client_commands.specs.declared.protocols.Protocol.{Protocol}
+use Rattle.client_commands.specs.Protocols.{protocol_asked}
+use Rattle.client_commands.specs.Courtesies.{ClientInfo, MonitoredMaster, Answer, left, said, asks_masters, silent, Looked, known, refused, verb_name, Greeted, greeted, expected, taken, is_user, is_password, is_some, admits, is_stranger, lacks_password, greeted_by, is_client_name, is_integer, after_first, first, or_else, hello_map, answered, asks_nothing, reply_to, courtesy, left_over, or_left}
 use Rattle.client_commands.proofs.Silence.{asked_is, unasked_is}
 
 -- ---- lines
@@ -249,8 +251,8 @@ greeted_lines wanted (Password familiar) option name admitted (word ∷ words) =
 greeted_lines wanted NewName option name admitted (word ∷ words) =
     named_lines (is_client_name word) name admitted _ (greeted_lines wanted Start option word admitted words)
 
-map_lines : (id : ℕ) → HasLines (hello_map id)
-map_lines id = (tt, (tt, (tt, (tt, (tt, (tt, (tt, (tt, (tt, (tt, (tt, (tt, tt))))))))))))
+map_lines : (protocol : Protocol) (id : ℕ) → HasLines (hello_map protocol id)
+map_lines protocol id = (tt, (tt, (tt, (tt, (tt, (tt, (tt, (tt, (tt, (tt, (tt, (tt, tt))))))))))))
 
 or_else_lines : (refusal : Option Frame) (answer : Frame) → IsLineOrNone refusal → HasLines answer → HasLines (or_else refusal answer)
 or_else_lines None answer h k = k
@@ -266,15 +268,18 @@ no_auth_yet_line =
     ++ codes " and select the RESP protocol version at the same time")
     refl
 
-welcome_lines : (asker : ClientInfo) (g : Greeted) → IsLineOrNone g.refusal → HasLines (table.welcome asker g)
-welcome_lines asker g h = or_else_lines g.refusal _ h (one_of (lacks_password asker.password g.admitted) _ _ no_auth_yet_line (map_lines asker.id))
+welcome_lines : (asker : ClientInfo) (protocol : Protocol) (g : Greeted) → IsLineOrNone g.refusal → HasLines (table.welcome asker protocol g)
+welcome_lines asker protocol g h = or_else_lines g.refusal _ h (one_of (lacks_password asker.password g.admitted) _ _ no_auth_yet_line (map_lines protocol asker.id))
+
+hello_for_lines : (asker : ClientInfo) (words : List (List ℕ)) (asked : Option Protocol) → HasLines (table.hello_for asker words asked)
+hello_for_lines asker words (Some protocol) =
+    welcome_lines asker protocol (greeted_by asker words) (greeted_lines asker.password Start [] asker.name asker.admitted (after_first words))
+hello_for_lines asker words None =
+    one_of (is_integer (first words)) _ _ (checked (codes "NOPROTO unsupported protocol version") refl)
+    (checked (codes "ERR Protocol version is not an integer or out of range") refl)
 
 hello_lines : (asker : ClientInfo) (words : List (List ℕ)) → HasLines (table.hello asker words)
-hello_lines asker words =
-    one_of (asks_for_2 words) _ _
-    (welcome_lines asker (greeted_by asker words) (greeted_lines asker.password Start [] asker.name asker.admitted (after_first words)))
-    (one_of (is_integer (first words)) _ _ (checked (codes "NOPROTO unsupported protocol version") refl)
-    (checked (codes "ERR Protocol version is not an integer or out of range") refl))
+hello_lines asker words = hello_for_lines asker words (protocol_asked asker.protocol words)
 
 no_password_line : HasLines no_password
 no_password_line =

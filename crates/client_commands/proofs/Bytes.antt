@@ -5,6 +5,8 @@ use Rattle.std.specs.Prelude.{OnOk}
 use Rattle.resp2.specs.declared.framing.value.Value.{Value}
 use Rattle.resp2.specs.Framing.Frame.{Frame, bulk, items, no_frames, count, frames_of, frames_view, spelling, spellings, line_end}
 use Rattle.client_commands.specs.Refusals.{no_auth_yet}
+use Rattle.client_commands.specs.declared.protocols.Protocol.{Protocol}
+use Rattle.client_commands.specs.declared.protocols.Protocol.TheVariants.{Two, Three}
 use Rattle.client_commands.specs.Courtesies.{ClientInfo, MonitoredMaster, names_of, or_else, is_some, lacks_password, refusal_text, greeting_of, hello_map, role, pong, first, uncached}
 
 -- a text that was set to the bytes of an answer
@@ -16,6 +18,9 @@ none = decimal_digit 0 (omega arith)
 
 two : decimal 2 ≡ 50 ∷ []
 two = decimal_digit 2 (omega arith)
+
+three : decimal 3 ≡ 51 ∷ []
+three = decimal_digit 3 (omega arith)
 
 four : decimal 4 ≡ 52 ∷ []
 four = decimal_digit 4 (omega arith)
@@ -39,12 +44,16 @@ pub none_bytes : spelling (items no_frames) ≡ 42 ∷ 48 ∷ 13 ∷ 10 ∷ []
 none_bytes = rw (none) refl
 
 -- what HELLO says before the number of the connection, and after it
-abbrev pub hello_front : List ℕ
-hello_front =
+abbrev pub digit : Protocol → ℕ
+digit Two = 50
+digit Three = 51
+
+abbrev pub hello_front : Protocol → List ℕ
+hello_front protocol =
     42 ∷ 49 ∷ 50 ∷ 13 ∷ 10 ∷ 36 ∷ 54 ∷ 13 ∷ 10 ∷ 115 ∷ 101 ∷ 114 ∷ 118 ∷ 101 ∷ 114 ∷ 13 ∷ 10 ∷ 36 ∷ 53 ∷ 13 ∷ 10 ∷ 114 ∷ 101 ∷ 100 ∷ 105 ∷ 115 ∷ 13 ∷ 10 ∷ 36 ∷ 55 ∷
     13 ∷ 10 ∷ 118 ∷ 101 ∷ 114 ∷ 115 ∷ 105 ∷ 111 ∷
-    110 ∷ 13 ∷ 10 ∷ 36 ∷ 53 ∷ 13 ∷ 10 ∷ 55 ∷ 46 ∷ 50 ∷ 46 ∷ 48 ∷ 13 ∷ 10 ∷ 36 ∷ 53 ∷ 13 ∷ 10 ∷ 112 ∷ 114 ∷ 111 ∷ 116 ∷ 111 ∷ 13 ∷ 10 ∷ 58 ∷ 50 ∷ 13 ∷ 10 ∷ 36 ∷
-    50 ∷ 13 ∷ 10 ∷ 105 ∷ 100 ∷ 13 ∷ 10 ∷ 58 ∷ []
+    110 ∷ 13 ∷ 10 ∷ 36 ∷ 53 ∷ 13 ∷ 10 ∷ 55 ∷ 46 ∷ 50 ∷ 46 ∷ 48 ∷ 13 ∷ 10 ∷ 36 ∷ 53 ∷ 13 ∷ 10 ∷ 112 ∷ 114 ∷ 111 ∷ 116 ∷ 111 ∷ 13 ∷ 10 ∷ 58 ∷ digit protocol
+    ∷ 13 ∷ 10 ∷ 36 ∷ 50 ∷ 13 ∷ 10 ∷ 105 ∷ 100 ∷ 13 ∷ 10 ∷ 58 ∷ []
 
 abbrev pub hello_back : List ℕ
 hello_back =
@@ -52,8 +61,9 @@ hello_back =
     100 ∷ 117 ∷ 108 ∷ 101 ∷ 115 ∷ 13 ∷ 10 ∷ 42 ∷
     48 ∷ 13 ∷ 10 ∷ []
 
-pub hello_bytes : (id : ℕ) → spelling (hello_map id) ≡ hello_front ++ ((decimal id ++ line_end) ++ hello_back)
-hello_bytes id = rw (twelve, six, five, seven, two, four, eight, none) refl
+pub hello_bytes : (protocol : Protocol) (id : ℕ) → spelling (hello_map protocol id) ≡ hello_front protocol ++ ((decimal id ++ line_end) ++ hello_back)
+hello_bytes Two id = rw (twelve, six, five, seven, two, four, eight, none) refl
+hello_bytes Three id = rw (twelve, six, five, seven, three, two, four, eight, none) refl
 
 abbrev pub pong_front : List ℕ
 pong_front = 42 ∷ 50 ∷ 13 ∷ 10 ∷ 36 ∷ 52 ∷ 13 ∷ 10 ∷ 112 ∷ 111 ∷ 110 ∷ 103 ∷ 13 ∷ 10 ∷ []
@@ -88,10 +98,11 @@ plain_welcome None answer h = refl
 plain_welcome (Some refusal) answer h = absurd (true≢false (sym h))
 
 -- the answer to HELLO of a client that gave the password
-pub greeting_bytes : (asker : ClientInfo) (admitted : Bool) (id : ℕ) → lacks_password asker.password admitted ≡ false → id ≡ asker.id
-    → spelling (greeting_of asker admitted) ≡ spelling (hello_map id)
-greeting_bytes asker admitted id given same =
-    ap (λ (t : Bool). spelling (elim t as (λ _. Frame) [ true ↦ no_auth_yet | false ↦ hello_map asker.id ])) given ∙ ap (λ (n : ℕ). spelling (hello_map n)) (sym same)
+pub greeting_bytes : (asker : ClientInfo) (protocol : Protocol) (admitted : Bool) (id : ℕ) → lacks_password asker.password admitted ≡ false → id ≡ asker.id
+    → spelling (greeting_of asker protocol admitted) ≡ spelling (hello_map protocol id)
+greeting_bytes asker protocol admitted id given same =
+    ap (λ (t : Bool). spelling (elim t as (λ _. Frame) [ true ↦ no_auth_yet | false ↦ hello_map protocol asker.id ])) given
+    ∙ ap (λ (n : ℕ). spelling (hello_map protocol n)) (sym same)
 
 -- nothing is kept of an INFO
 abbrev pub uncached_row : List ℕ

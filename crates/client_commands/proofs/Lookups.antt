@@ -2,7 +2,7 @@
 use Rattle.std.proofs.Common.{◌≡◌, ℕ, List, Option, None, Some, refl, sym, ap}
 use Rattle.client_commands.specs.declared.verbs.Verb.{Verb}
 use Rattle.client_commands.specs.declared.courtesies.Courtesy.TheVariants.{Said}
-use Rattle.client_commands.specs.Courtesies.{ClientInfo, Looked, known, refused, found, text_after, answered, named, admitted_by, killed_by, kind_of, text_of}
+use Rattle.client_commands.specs.Courtesies.{ClientInfo, Looked, known, refused, found, text_after, answered, named, protocol_by, admitted_by, killed_by, kind_of, text_of}
 
 pub known_is : (looked : Looked) (verb : Verb) (words : List (List ℕ)) → Some (verb, words) ≡ found looked → looked ≡ known verb words
 known_is (known v ws) verb words same =
@@ -21,6 +21,10 @@ pub refused_name : (asker : ClientInfo) (looked : Looked) → None ≡ found loo
 refused_name asker (known verb words) same = let never : None ≡ Some (verb, words) = same in absurd (cc)
 refused_name asker (refused refusal) same = refl
 
+pub refused_protocol : (asker : ClientInfo) (looked : Looked) → None ≡ found looked → protocol_by asker looked ≡ asker.protocol
+refused_protocol asker (known verb words) same = let never : None ≡ Some (verb, words) = same in absurd (cc)
+refused_protocol asker (refused refusal) same = refl
+
 pub refused_kills : (asker : ClientInfo) (looked : Looked) → None ≡ found looked → killed_by asker looked ≡ asker.port.killed
 refused_kills asker (known verb words) same = let never : None ≡ Some (verb, words) = same in absurd (cc)
 refused_kills asker (refused refusal) same = refl
@@ -29,6 +33,7 @@ refused_kills asker (refused refusal) same = refl
 pub refused_same : (asker : ClientInfo) (looked : Looked) → None ≡ found looked
     → asker ≡ (let a : ClientInfo = record asker {
       name = named asker looked;
+      protocol = protocol_by asker looked;
       admitted = admitted_by asker looked;
       port = record asker.port { killed = killed_by asker looked };
     } in a)

@@ -7,7 +7,7 @@ use Rattle.resp2.specs.Commands.{redis_command_of}
 use Rattle.resp2.specs.Framing.Frame.{Frame}
 use Rattle.client_commands.specs.Refusals.{no_auth}
 use Rattle.client_commands.proofs.Silence.{command_asks, asked_is}
-use Rattle.client_commands.specs.Courtesies.{ClientInfo, Answer, Looked, left, said, asks_nothing, reply_to, courtesy, asker_after, unless_stranger, or_left, or_same, or_admitted, or_killed, is_stranger, is_refused, is_miscounted, looked_up_in, words_of}
+use Rattle.client_commands.specs.Courtesies.{ClientInfo, Answer, Looked, left, said, asks_nothing, reply_to, courtesy, asker_after, unless_stranger, or_left, or_same, or_protocol, or_admitted, or_killed, is_stranger, is_refused, is_miscounted, looked_up_in, words_of}
 
 -- what is left over of a value that was judged so
 abbrev over : ClientInfo → Result Command CommandFault → Frame → Option Looked
@@ -36,6 +36,7 @@ own_is_same asker value command is =
     ap (λ (asked : Result Command CommandFault).
     let a : ClientInfo = record asker {
       name = or_same asker (over asker asked value);
+      protocol = or_protocol asker (over asker asked value);
       admitted = or_admitted asker (over asker asked value);
       port = record asker.port { killed = or_killed asker (over asker asked value) };
     } in a) is

@@ -19,11 +19,15 @@ pub four_parts : {X E : Type 0} (answer : Result X E) (a b c d old m1 m2 m3 new 
 four_parts answer a b c d old m1 m2 m3 new e f g last =
     on_behind answer old a m1 (b ++ (c ++ d)) new e (three_parts answer b c d m1 m2 m3 new f g last)
 
+pub five_parts : {X E : Type 0} (answer : Result X E) (a b c d e old m1 m2 m3 m4 new : List ℕ) → m1 ≡ old ++ a → m2 ≡ m1 ++ b → m3 ≡ m2 ++ c
+    → m4 ≡ m3 ++ d → OnOk answer (new ≡ m4 ++ e) → OnOk answer (new ≡ old ++ (a ++ (b ++ (c ++ (d ++ e)))))
+five_parts answer a b c d e old m1 m2 m3 m4 new at bt ct dt last =
+    on_behind answer old a m1 (b ++ (c ++ (d ++ e))) new at (four_parts answer b c d e m1 m2 m3 m4 new bt ct dt last)
+
 pub six_parts : {X E : Type 0} (answer : Result X E) (a b c d e f old m1 m2 m3 m4 m5 new : List ℕ) → m1 ≡ old ++ a → m2 ≡ m1 ++ b → m3 ≡ m2 ++ c
     → m4 ≡ m3 ++ d → m5 ≡ m4 ++ e → OnOk answer (new ≡ m5 ++ f) → OnOk answer (new ≡ old ++ (a ++ (b ++ (c ++ (d ++ (e ++ f))))))
 six_parts answer a b c d e f old m1 m2 m3 m4 m5 new at bt ct dt et last =
-    on_behind answer old a m1 (b ++ (c ++ (d ++ (e ++ f)))) new at
-    (on_behind answer m1 b m2 (c ++ (d ++ (e ++ f))) new bt (four_parts answer c d e f m2 m3 m4 m5 new ct dt et last))
+    on_behind answer old a m1 (b ++ (c ++ (d ++ (e ++ f)))) new at (five_parts answer b c d e f m1 m2 m3 m4 m5 new bt ct dt et last)
 
 -- lists to which others are added, from none
 pub six_more : {X : Type 0} (a b c d e f m0 m1 m2 m3 m4 m5 m6 : List X) → m0 ≡ [] → m1 ≡ m0 ++ a → m2 ≡ m1 ++ b → m3 ≡ m2 ++ c → m4 ≡ m3 ++ d

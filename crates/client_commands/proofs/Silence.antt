@@ -5,7 +5,7 @@ use Rattle.ballot_law.specs.declared.commands.Command.{Command}
 use Rattle.resp2.specs.Commands.{redis_command_of}
 use Rattle.resp2.specs.Framing.Frame.{Frame, simple, fault, int, bulk, null_bulk, items, null_items, no_frames, frame, frames_view}
 use Rattle.resp2.specs.declared.framing.value.Value.{Value}
-use Rattle.client_commands.specs.Courtesies.{ClientInfo, Answer, Looked, silent, asks_nothing, reply_to, courtesy, asker_after, left_over, or_same, or_admitted, or_killed}
+use Rattle.client_commands.specs.Courtesies.{ClientInfo, Answer, Looked, silent, asks_nothing, reply_to, courtesy, asker_after, left_over, or_same, or_protocol, or_admitted, or_killed}
 
 -- nothing is left over of it
 nothing_left : (asker : ClientInfo) (value : Frame) → asks_nothing value ≡ true → left_over asker value ≡ None
@@ -23,6 +23,7 @@ pub same_after_nothing : (asker : ClientInfo) (value : Frame) → asks_nothing v
 same_after_nothing asker value h =
     ap (λ (over : Option Looked). let a : ClientInfo = record asker {
       name = or_same asker over;
+      protocol = or_protocol asker over;
       admitted = or_admitted asker over;
       port = record asker.port { killed = or_killed asker over };
     } in a) (sym (nothing_left asker value h))

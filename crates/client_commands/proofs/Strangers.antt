@@ -13,8 +13,10 @@ use Rattle.client_commands.specs.declared.hellos.Expects.TheVariants.{Start, Use
 use Rattle.client_commands.specs.declared.courtesies.Courtesy.TheVariants.{Said}
 use Rattle.client_commands.specs.Refusals.{is_called, no_auth, no_option, wrong_password, no_name}
 use Rattle.client_commands.specs.Subcommands.{all_subs, sub_among, takes_count}
+use Rattle.client_commands.specs.declared.protocols.Protocol.{Protocol}
+use Rattle.client_commands.specs.Protocols.{protocol_asked}
 use Rattle.client_commands.specs.Courtesies as table
-use Rattle.client_commands.specs.Courtesies.{ClientInfo, Answer, left, said, asks_masters, Looked, known, refused, Greeted, greeted, expected, is_user, is_password, is_client_name, is_some, asks_for_2, after_first, lacks_password, is_stranger, is_for_strangers, admits, hello_admitted, admitted_by, or_admitted, answered, or_left, left_over, courtesy, asker_after, kind_of, words_of}
+use Rattle.client_commands.specs.Courtesies.{ClientInfo, Answer, left, said, asks_masters, Looked, known, refused, Greeted, greeted, expected, is_user, is_password, is_client_name, is_some, after_first, lacks_password, is_stranger, is_for_strangers, admits, hello_admitted, admitted_by, or_admitted, answered, or_left, left_over, courtesy, asker_after, kind_of, words_of}
 
 -- ---- each value is answered
 
@@ -238,19 +240,19 @@ else_case : (test a b : Bool) → a ≡ false → elim test as (λ _. Bool) [ tr
 else_case true a b h k = never a h k
 else_case false a b h k = k
 
-then_case : (test a b : Bool) → b ≡ false → elim test as (λ _. Bool) [ true ↦ a | false ↦ b ] ≡ true → a ≡ true
-then_case true a b h k = k
-then_case false a b h k = never b h k
-
 or_case : (a b : Bool) → a ≡ false → (a || b) ≡ true → b ≡ true
 or_case true b h k = never true h refl
 or_case false b h k = k
 
+-- HELLO for no protocol admits nobody
+asked_for : (asker : ClientInfo) (words : List (List ℕ)) (asked : Option Protocol) → asker.admitted ≡ false → table.admitted_for asker words asked ≡ true
+    → (table.greeted_by asker words).admitted ≡ true
+asked_for asker words None h k = never asker.admitted h k
+asked_for asker words (Some protocol) h k = k
+
 hello_needs : (asker : ClientInfo) (words : List (List ℕ)) → asker.admitted ≡ false → hello_admitted asker words ≡ true → Holds asker.password words
 hello_needs asker words h k =
-    after asker.password words
-    (greeted_needs asker.password Start [] asker.name asker.admitted (after_first words) h
-    (then_case (asks_for_2 words) (table.greeted_by asker words).admitted asker.admitted h k))
+    after asker.password words (greeted_needs asker.password Start [] asker.name asker.admitted (after_first words) h (asked_for asker words (protocol_asked asker.protocol words) h k))
 
 -- ---- the whole
 

@@ -19,6 +19,8 @@ use Rattle.client_commands.specs.declared.courtesies.Courtesy.{Courtesy}
 use Rattle.client_commands.specs.declared.courtesies.Courtesy.TheVariants.{Left, Said, AsksMasters}
 use Rattle.client_commands.specs.declared.port_facts.Figures.{Figures}
 use Rattle.client_commands.specs.Ports.{PortFacts}
+use Rattle.client_commands.specs.declared.protocols.Protocol.{Protocol}
+use Rattle.client_commands.specs.Protocols.{version, protocol_asked}
 use Rattle.client_commands.specs.Choosing.{Wanted, Chosen, fits, unfit, anyone, kind_named, no_kind, chosen_by, places_of}
 use Rattle.client_commands.specs.ClientLines.{client_lines}
 use Rattle.client_commands.specs.Subcommands.{sub_name, all_subs, sub_among, takes_count, not_at_runtime, no_trials, only_get}
@@ -30,12 +32,13 @@ pub record MonitoredMaster : Type 0 where
   pub name : List ℕ
   pub nodes : ℕ
 
--- what is known of a connection: its number, the name that its client gave it, whether it listens to notes, the Sentinel's masters, the
--- password that is wanted of its client, where one is, and whether the client gave it; the Sentinel's current epoch as it was last told, where that was; and what its
--- port knows
+-- what is known of a connection: its number, the name that its client gave it, which protocol it speaks, whether it listens and so has no other commands, the
+-- Sentinel's masters, the password that is wanted of its client, where one is, and whether the client gave it; the Sentinel's current epoch as it was last told, where
+-- that was; and what its port knows
 pub record ClientInfo : Type 0 where
   pub id : ℕ
   pub name : List ℕ
+  pub protocol : Protocol
   pub listens : Bool
   pub masters : List MonitoredMaster
   pub password : Option (List ℕ)
@@ -252,9 +255,9 @@ abbrev pub is_user : List ℕ → Bool
 is_user word = bytes_eq word (codes "default")
 
 -- a list of values as the clients of protocol 2 get a map: each name before its value
-abbrev pub hello_map : ℕ → Frame
-hello_map id =
-    items (frames_of (bulk (codes "server") ∷ bulk (codes "redis") ∷ bulk (codes "version") ∷ bulk (codes "7.2.0") ∷ bulk (codes "proto") ∷ int (pos 2)
+abbrev pub hello_map : Protocol → ℕ → Frame
+hello_map protocol id =
+    items (frames_of (bulk (codes "server") ∷ bulk (codes "redis") ∷ bulk (codes "version") ∷ bulk (codes "7.2.0") ∷ bulk (codes "proto") ∷ int (pos (version protocol))
     ∷ bulk (codes "id") ∷ int (pos id) ∷ bulk (codes "mode") ∷ bulk (codes "sentinel") ∷ bulk (codes "modules") ∷ items no_frames ∷ []))
 
 abbrev pub is_negative : List ℕ → Bool
@@ -308,11 +311,6 @@ abbrev pub refusal_text : List ℕ → Option Frame → List ℕ
 refusal_text before None = before
 refusal_text before (Some refusal) = spelling refusal
 
--- the first word of HELLO asks for protocol 2, which is the only one
-abbrev pub asks_for_2 : List (List ℕ) → Bool
-asks_for_2 [] = true
-asks_for_2 (version ∷ options) = bytes_eq version (codes "2")
-
 abbrev pub after_first : List (List ℕ) → List (List ℕ)
 after_first [] = []
 after_first (word ∷ words) = words
@@ -322,27 +320,49 @@ abbrev pub greeted_by : ClientInfo → List (List ℕ) → Greeted
 greeted_by asker words = greeted asker.password Start [] asker.name asker.admitted (after_first words)
 
 -- HELLO is answered to clients alone that gave the password before it or with it
-abbrev pub greeting_of : ClientInfo → (admitted : Bool) → Frame
-greeting_of asker admitted = elim (lacks_password asker.password admitted) [ true ↦ no_auth_yet | false ↦ hello_map asker.id ]
+abbrev pub greeting_of : ClientInfo → Protocol → (admitted : Bool) → Frame
+greeting_of asker protocol admitted = elim (lacks_password asker.password admitted) [ true ↦ no_auth_yet | false ↦ hello_map protocol asker.id ]
 
-abbrev pub welcome : ClientInfo → Greeted → Frame
-welcome asker g = or_else g.refusal (greeting_of asker g.admitted)
+abbrev pub welcome : ClientInfo → Protocol → Greeted → Frame
+welcome asker protocol g = or_else g.refusal (greeting_of asker protocol g.admitted)
 
--- at the refusal of protocol 3 clients go on with protocol 2
+-- the number of no protocol, or no number
+abbrev pub no_version : List ℕ → Frame
+no_version word = elim (is_integer word) [ true ↦ no_such_protocol | false ↦ no_protocol ]
+
+abbrev pub hello_for : ClientInfo → List (List ℕ) → Option Protocol → Frame
+hello_for asker words None = no_version (first words)
+hello_for asker words (Some protocol) = welcome asker protocol (greeted_by asker words)
+
 abbrev pub hello : ClientInfo → List (List ℕ) → Frame
-hello asker words =
-    elim (asks_for_2 words) [
-      | true ↦ welcome asker (greeted_by asker words)
-      | false ↦ elim (is_integer (first words)) [ true ↦ no_such_protocol | false ↦ no_protocol ]
-    ]
+hello asker words = hello_for asker words (protocol_asked asker.protocol words)
 
 -- the name that a connection has after HELLO
+abbrev pub name_for : ClientInfo → List (List ℕ) → Option Protocol → List ℕ
+name_for asker words None = asker.name
+name_for asker words (Some protocol) = (greeted_by asker words).name
+
 abbrev pub hello_name : ClientInfo → List (List ℕ) → List ℕ
-hello_name asker words = elim (asks_for_2 words) [ true ↦ (greeted_by asker words).name | false ↦ asker.name ]
+hello_name asker words = name_for asker words (protocol_asked asker.protocol words)
 
 -- whether the client gave the password then
+abbrev pub admitted_for : ClientInfo → List (List ℕ) → Option Protocol → Bool
+admitted_for asker words None = asker.admitted
+admitted_for asker words (Some protocol) = (greeted_by asker words).admitted
+
 abbrev pub hello_admitted : ClientInfo → List (List ℕ) → Bool
-hello_admitted asker words = elim (asks_for_2 words) [ true ↦ (greeted_by asker words).admitted | false ↦ asker.admitted ]
+hello_admitted asker words = admitted_for asker words (protocol_asked asker.protocol words)
+
+-- which protocol the connection speaks then: the one for which HELLO asks, unless an option is refused or the client is still to give the password
+abbrev pub speaks_then : ClientInfo → (barred admitted : Bool) → Protocol → Protocol
+speaks_then asker barred admitted protocol = elim (barred || lacks_password asker.password admitted) [ true ↦ asker.protocol | false ↦ protocol ]
+
+abbrev pub protocol_for : ClientInfo → List (List ℕ) → Option Protocol → Protocol
+protocol_for asker words None = asker.protocol
+protocol_for asker words (Some protocol) = speaks_then asker (is_some (greeted_by asker words).refusal) (greeted_by asker words).admitted protocol
+
+abbrev pub hello_protocol : ClientInfo → List (List ℕ) → Protocol
+hello_protocol asker words = protocol_for asker words (protocol_asked asker.protocol words)
 
 -- AUTH with these words is answered OK: a password that is wanted, or a user and its password
 abbrev pub admits : (wanted : Option (List ℕ)) → List (List ℕ) → Bool
@@ -373,7 +393,7 @@ get_name (b ∷ bs) = bulk (b ∷ bs)
 
 -- the text of the clients that are wanted, by this command
 abbrev pub lines_of : ClientInfo → (last : List ℕ) → Wanted → List ℕ
-lines_of asker last wanted = client_lines asker.id asker.name last asker.port wanted asker.port.clients
+lines_of asker last wanted = client_lines asker.id asker.name asker.protocol last asker.port wanted asker.port.clients
 
 abbrev pub own_line : ClientInfo → Frame
 own_line asker = bulk (lines_of asker (codes "client|info") (record (anyone false) { id = Some asker.id }))
@@ -548,6 +568,11 @@ admitted_after asker Auth words = asker.admitted || admits asker.password words
 admitted_after asker Hello words = hello_admitted asker words
 admitted_after asker verb words = asker.admitted
 
+-- which protocol it speaks then
+abbrev pub protocol_after : ClientInfo → Verb → List (List ℕ) → Protocol
+protocol_after asker Hello words = hello_protocol asker words
+protocol_after asker verb words = asker.protocol
+
 -- the clients that are to be closed after it
 abbrev pub killed_after : ClientInfo → Verb → List (List ℕ) → List ℕ
 killed_after asker Kill words = asker.port.killed ++ doomed asker (chosen_by words)
@@ -587,6 +612,10 @@ abbrev pub admitted_by : ClientInfo → Looked → Bool
 admitted_by asker (refused refusal) = asker.admitted
 admitted_by asker (known verb words) = elim asker.listens [ true ↦ asker.admitted | false ↦ admitted_after asker verb words ]
 
+abbrev pub protocol_by : ClientInfo → Looked → Protocol
+protocol_by asker (refused refusal) = asker.protocol
+protocol_by asker (known verb words) = elim asker.listens [ true ↦ asker.protocol | false ↦ protocol_after asker verb words ]
+
 abbrev pub killed_by : ClientInfo → Looked → List ℕ
 killed_by asker (refused refusal) = asker.port.killed
 killed_by asker (known verb words) = elim asker.listens [ true ↦ asker.port.killed | false ↦ killed_after asker verb words ]
@@ -616,6 +645,10 @@ abbrev pub or_admitted : ClientInfo → Option Looked → Bool
 or_admitted asker None = asker.admitted
 or_admitted asker (Some looked) = admitted_by asker looked
 
+abbrev pub or_protocol : ClientInfo → Option Looked → Protocol
+or_protocol asker None = asker.protocol
+or_protocol asker (Some looked) = protocol_by asker looked
+
 abbrev pub or_killed : ClientInfo → Option Looked → List ℕ
 or_killed asker None = asker.port.killed
 or_killed asker (Some looked) = killed_by asker looked
@@ -643,6 +676,7 @@ abbrev pub asker_after : ClientInfo → Frame → ClientInfo
 asker_after asker value =
     record asker {
       name = or_same asker (left_over asker value);
+      protocol = or_protocol asker (left_over asker value);
       admitted = or_admitted asker (left_over asker value);
       port = record asker.port { killed = or_killed asker (left_over asker value) };
     }

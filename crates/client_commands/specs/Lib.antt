@@ -1,4 +1,5 @@
 pub mod Refusals
+pub mod Protocols
 pub mod Ports
 pub mod Choosing
 pub mod ClientLines

@@ -1,14 +1,16 @@
 -- What a port knows of itself and of its clients, as a session is told it.
 use Rattle.std.specs.Prelude.{ℕ, ◌+◌, Bool, true, false, not, ◌||◌, ◌==◌, nat_lt, List, [], ◌∷◌, None}
 use Rattle.client_commands.specs.declared.port_facts.Figures.{Figures}
+use Rattle.client_commands.specs.declared.protocols.Protocol.{Protocol}
 
--- a client of a port: the number of its connection, whence it came and where to, its name, when it came and when its last byte came, to how many channels and patterns
--- it listens, its place in the port, and whether it is gone
+-- a client of a port: the number of its connection, whence it came and where to, its name, which protocol it speaks, when it came and when its last byte came, to how
+-- many channels and patterns it listens, its place in the port, and whether it is gone
 pub record ClientEntry : Type 0 where
   pub id : ℕ
   pub address : List ℕ
   pub local : List ℕ
   pub name : List ℕ
+  pub protocol : Protocol
   pub came : ℕ
   pub heard : ℕ
   pub channels : ℕ

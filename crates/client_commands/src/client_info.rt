@@ -5,6 +5,7 @@ ghost use Rattle.client_commands.specs.Courtesies.{is_some, lacks_password, is_s
 
 use crate::passwords::is_same;
 use crate::port_facts::PortFacts;
+use crate::protocols::Protocol;
 use ballot_law::{Name, NoMemory, Text};
 use std::marker::Model;
 use std::mem;
@@ -59,7 +60,9 @@ pub struct ClientInfo {
     pub id: u64,
     /// The name that its client gave it, empty where it gave none.
     pub name: Text,
-    /// Whether it listens to notes.
+    /// Which protocol it speaks.
+    pub protocol: Protocol,
+    /// Whether it listens, and so has no commands but those of Pub/Sub and PING.
     pub listens: bool,
     /// The Sentinel's masters, in the roster's order.
     pub masters: Vec<MonitoredMaster>,
@@ -81,6 +84,7 @@ impl Model for ClientInfo {
     ghost view = { λ asker. record {
       id = asker.id;
       name = asker.name;
+      protocol = asker.protocol;
       listens = asker.listens;
       masters = asker.masters.items;
       password = asker.password;
@@ -103,6 +107,20 @@ impl ClientInfo {
         ensures { result.now ≡ self.now.name }
     {
         self.name.as_slice()
+    }
+
+    /// Which protocol it speaks.
+    pub(crate) fn protocol(&self) -> Protocol
+        ensures { result ≡ self.now.protocol }
+    {
+        self.protocol
+    }
+
+    /// Has it speak this protocol.
+    pub(crate) fn speak(&mut self, protocol: Protocol)
+        ensures { self.new ≡ record self.old { protocol = protocol } }
+    {
+        self.protocol = protocol;
     }
 
     /// Whether it listens.

@@ -15,6 +15,7 @@ use crate::courtesies::{Courtesy, courtesy_of};
 use crate::infos::info;
 use crate::lines::{next_common, next_value};
 use crate::port_facts::PortFacts;
+use crate::protocols::Protocol;
 use ballot_law::{Command, NoMemory, Text};
 use resp2::{FrameFault, Frames, OutText, Value};
 use std::alloc::Global;
@@ -74,7 +75,14 @@ impl CommandReader {
         self.frames.held().is_empty()
     }
 
-    /// Has it know that the connection listens to notes, or doesn't.
+    /// Which protocol the connection speaks.
+    pub fn protocol(&self) -> Protocol
+        ensures { result ≡ self.now.asker.protocol }
+    {
+        self.asker.protocol()
+    }
+
+    /// Has it know that the connection listens, and so has no commands but those of Pub/Sub and PING, or doesn't.
     pub fn note_listening(&mut self, listens: bool)
         ensures { self.new ≡ record self.old { asker = record self.old.asker { listens = listens } } }
     {

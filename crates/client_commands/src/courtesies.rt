@@ -4,7 +4,7 @@ ghost use Rattle.std.specs.Prelude.{◌≡◌, ℕ, List, [], None, IfOk, OnOk};
 ghost use Rattle.resp2.specs.Commands as commands;
 ghost use Rattle.resp2.specs.Framing.Frame as frames;
 ghost use Rattle.resp2.specs.Framing.Frame.{view, frames_view, spelling};
-ghost use Rattle.client_commands.specs.Courtesies.{ClientInfo, known, executed, while_listening, name_after, admitted_after, killed_after, killed_by, or_killed, is_for_strangers, is_barred, admitted_by, or_admitted, words_of, is_miscounted, is_refused, names_channels, answered, named, looked_up_in, left, unless_stranger, or_left, or_same, asks_nothing, reply_to, courtesy, asker_after, kind_of, text_of};
+ghost use Rattle.client_commands.specs.Courtesies.{ClientInfo, known, executed, while_listening, name_after, admitted_after, killed_after, killed_by, or_killed, protocol_after, protocol_by, or_protocol, is_for_strangers, is_barred, admitted_by, or_admitted, words_of, is_miscounted, is_refused, names_channels, answered, named, looked_up_in, left, unless_stranger, or_left, or_same, asks_nothing, reply_to, courtesy, asker_after, kind_of, text_of};
 
 use crate::client_info::ClientInfo;
 use crate::clients::{
@@ -119,14 +119,17 @@ fn greet(
     ensures text { OnOk result (out.new ≡ text_of (executed asker.old Verb.Hello words.now)) }
     ensures asker { OnOk result (asker.new ≡ record asker.old {
       name = name_after asker.old Verb.Hello words.now;
+      protocol = protocol_after asker.old Verb.Hello words.now;
       admitted = admitted_after asker.old Verb.Hello words.now;
     }) }
 {
     let left = hello(asker, words, out)?;
     let admitted = left.admitted;
+    let protocol = left.protocol;
     let name = Text::from_slice(alloc, left.name)?;
     asker.rename(name);
     asker.admit(admitted);
+    asker.speak(protocol);
     Ok(())
 }
 
@@ -159,7 +162,8 @@ fn rename(
 }
 
 /// Has the connection carry out a command with these words: the answer, where it is known, the name that the command
-/// gives the connection, whether its client gave the password then, and which clients are to be closed.
+/// gives the connection, which protocol it speaks and whether its client gave the password then, and which clients are
+/// to be closed.
 fn execute(
     alloc: Global,
     asker: &mut ClientInfo,
@@ -170,6 +174,7 @@ fn execute(
     ensures text { OnOk result (out.new ≡ text_of (executed asker.old verb words.now)) }
     ensures asker { OnOk result (asker.new ≡ record asker.old {
       name = name_after asker.old verb words.now;
+      protocol = protocol_after asker.old verb words.now;
       admitted = admitted_after asker.old verb words.now;
       port = record asker.old.port { killed = killed_after asker.old verb words.now };
     }) }
@@ -235,6 +240,7 @@ fn answer_known(
     ensures text { OnOk result (out.new ≡ text_of (answered asker.old (known verb words.now))) }
     ensures asker { OnOk result (asker.new ≡ record asker.old {
       name = named asker.old (known verb words.now);
+      protocol = protocol_by asker.old (known verb words.now);
       admitted = admitted_by asker.old (known verb words.now);
       port = record asker.old.port { killed = killed_by asker.old (known verb words.now) };
     }) }
@@ -263,7 +269,7 @@ fn leave(asker: &ClientInfo, out: &mut OutText) -> Result<Courtesy, NoMemory>
 
 /// What becomes of these words, which the Sentinel's rules call unknown or refuse for their number. Before the password
 /// that is wanted AUTH and HELLO alone are looked up.
-#[tactic(auto, using(crate::proofs::Lookups::known_is, crate::proofs::Lookups::refused_kind, crate::proofs::Lookups::refused_text, crate::proofs::Lookups::refused_name, crate::proofs::Lookups::refused_kills, crate::proofs::Lookups::refused_same))]
+#[tactic(auto, using(crate::proofs::Lookups::known_is, crate::proofs::Lookups::refused_kind, crate::proofs::Lookups::refused_text, crate::proofs::Lookups::refused_name, crate::proofs::Lookups::refused_kills, crate::proofs::Lookups::refused_protocol, crate::proofs::Lookups::refused_same))]
 fn answer_words(
     alloc: Global,
     asker: &mut ClientInfo,
@@ -276,6 +282,7 @@ fn answer_words(
     ensures text { OnOk result (out.new ≡ text_of (or_left asker.old (looked_up_in asker.old miscounted words.now))) }
     ensures asker { OnOk result (asker.new ≡ record asker.old {
       name = or_same asker.old (looked_up_in asker.old miscounted words.now);
+      protocol = or_protocol asker.old (looked_up_in asker.old miscounted words.now);
       admitted = or_admitted asker.old (looked_up_in asker.old miscounted words.now);
       port = record asker.old.port { killed = or_killed asker.old (looked_up_in asker.old miscounted words.now) };
     }) }

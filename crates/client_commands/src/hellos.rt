@@ -2,10 +2,11 @@
 
 ghost use Rattle.std.specs.Prelude.{◌≡◌, ◌++◌, ℕ, List, [], Option, IfOk, OnOk, decimal};
 ghost use Rattle.resp2.specs.Framing.Frame.{spelling, line_end};
-ghost use Rattle.client_commands.specs.Courtesies.{first, after_first, is_client_name, is_user, hello_map, is_negative, is_integer, asks_for_2, expected, greeted, is_some, refusal_text, greeted_by, greeting_of, welcome, hello, hello_name, hello_admitted, admits, unadmitted, auth, set_name};
+ghost use Rattle.client_commands.specs.Courtesies.{first, after_first, is_client_name, is_user, hello_map, is_negative, is_integer, expected, greeted, is_some, refusal_text, greeted_by, greeting_of, welcome, hello, hello_name, hello_admitted, hello_protocol, speaks_then, no_version, admits, unadmitted, auth, set_name};
 
 use crate::client_info::ClientInfo;
 use crate::clients::add_number;
+use crate::protocols::{Protocol, protocol_asked};
 use crate::refusals::{is_called, refuse_option, say};
 use ballot_law::{NoMemory, Text};
 use resp2::OutText;
@@ -73,16 +74,6 @@ pub(crate) fn is_integer(word: &[u8]) -> bool
     canonical_number_of(word, 0, 9_223_372_036_854_775_807).is_some() || is_negative(word)
 }
 
-/// Whether HELLO asks for protocol 2, which is the only one.
-pub(crate) fn asks_for_2(words: &[Text]) -> bool
-    ensures { result ≡ asks_for_2 words.now }
-{
-    match words.split_first() {
-        Some((version, _)) => version.as_slice() == b"2".as_slice(),
-        None => true,
-    }
-}
-
 /// What the next word of HELLO is to be.
 #[derive(Clone, Copy)]
 pub(crate) enum Expects {
@@ -118,6 +109,17 @@ pub(crate) struct Greeting<'a> {
     pub(crate) admitted: bool,
     /// Whether an option was refused.
     pub(crate) refused: bool,
+}
+
+/// What HELLO leaves a connection.
+#[derive(Clone, Copy)]
+pub(crate) struct Welcome<'a> {
+    /// Its name.
+    pub(crate) name: &'a [u8],
+    /// Whether its client gave the password.
+    pub(crate) admitted: bool,
+    /// Which protocol it speaks.
+    pub(crate) protocol: Protocol,
 }
 
 /// What the options of HELLO leave a connection. The answer is the refusal of the first option that has one, and is
@@ -188,9 +190,9 @@ fn say_numbered(out: &mut OutText, before: &[u8], number: u64, after: &[u8]) -> 
     out.add(after)
 }
 
-/// The answer is what HELLO says of the Sentinel.
-fn say_hello(out: &mut OutText, id: u64) -> Result<(), NoMemory>
-    ensures { OnOk result (out.new ≡ spelling (hello_map id)) }
+/// The answer is what HELLO says of the Sentinel to a client of protocol 2.
+fn say_hello_in_2(out: &mut OutText, id: u64) -> Result<(), NoMemory>
+    ensures { OnOk result (out.new ≡ spelling (hello_map Protocol.Two id)) }
 {
     say_numbered(
         out,
@@ -200,32 +202,86 @@ fn say_hello(out: &mut OutText, id: u64) -> Result<(), NoMemory>
     )
 }
 
-/// The answer to HELLO of which no option is refused, where its client gave the password or didn't, as is told.
-fn say_welcome(asker: &ClientInfo, admitted: bool, out: &mut OutText) -> Result<(), NoMemory>
-    ensures { OnOk result (out.new ≡ spelling (greeting_of asker.now admitted)) }
+/// The same to one of protocol 3, before it is told as a map.
+fn say_hello_in_3(out: &mut OutText, id: u64) -> Result<(), NoMemory>
+    ensures { OnOk result (out.new ≡ spelling (hello_map Protocol.Three id)) }
+{
+    say_numbered(
+        out,
+        b"*12\r\n$6\r\nserver\r\n$5\r\nredis\r\n$7\r\nversion\r\n$5\r\n7.2.0\r\n$5\r\nproto\r\n:3\r\n$2\r\nid\r\n:",
+        id,
+        b"$4\r\nmode\r\n$8\r\nsentinel\r\n$7\r\nmodules\r\n*0\r\n",
+    )
+}
+
+/// The answer is what HELLO for this protocol says of the Sentinel.
+fn say_hello(out: &mut OutText, protocol: Protocol, id: u64) -> Result<(), NoMemory>
+    ensures { OnOk result (out.new ≡ spelling (hello_map protocol id)) }
+{
+    match protocol {
+        Protocol::Two => say_hello_in_2(out, id),
+        Protocol::Three => say_hello_in_3(out, id),
+    }
+}
+
+/// The answer to HELLO for this protocol of which no option is refused, where its client gave the password or didn't,
+/// as is told.
+fn say_welcome(
+    asker: &ClientInfo,
+    protocol: Protocol,
+    admitted: bool,
+    out: &mut OutText,
+) -> Result<(), NoMemory>
+    ensures { OnOk result (out.new ≡ spelling (greeting_of asker.now protocol admitted)) }
 {
     if asker.lacks_password(admitted) {
         return say(out, NO_AUTH_YET);
     }
-    say_hello(out, asker.id())
+    say_hello(out, protocol, asker.id())
 }
 
-/// What the options of HELLO for protocol 2 leave a connection, and the answer.
+/// What the options of HELLO for this protocol leave a connection, and the answer.
 #[tactic(auto, using(crate::proofs::Bytes::refused_welcome, crate::proofs::Bytes::plain_welcome))]
-fn welcome<'a>(
+fn welcomed<'a>(
     asker: &'a ClientInfo,
+    protocol: Protocol,
     words: &'a [Text],
     out: &mut OutText,
 ) -> Result<Greeting<'a>, NoMemory>
     ensures name { IfOk result (λ left. left.name.now ≡ (greeted_by asker.now words.now).name) }
     ensures admitted { IfOk result (λ left. left.admitted ≡ (greeted_by asker.now words.now).admitted) }
-    ensures text { OnOk result (out.new ≡ spelling (welcome asker.now (greeted_by asker.now words.now))) }
+    ensures refused { IfOk result (λ left. left.refused ≡ is_some (greeted_by asker.now words.now).refusal) }
+    ensures text { OnOk result (out.new ≡ spelling (welcome asker.now protocol (greeted_by asker.now words.now))) }
 {
     let left = greeted(asker, after_first(words), out)?;
     if !left.refused {
-        say_welcome(asker, left.admitted, out)?;
+        say_welcome(asker, protocol, left.admitted, out)?;
     }
     Ok(left)
+}
+
+/// Which protocol a connection speaks after HELLO for this one, of which an option was refused or none, and after which
+/// its client gave the password or didn't.
+fn speaks_then(asker: &ClientInfo, refused: bool, admitted: bool, protocol: Protocol) -> Protocol
+    ensures { result ≡ speaks_then asker.now refused admitted protocol }
+{
+    if refused || asker.lacks_password(admitted) {
+        return asker.protocol();
+    }
+    protocol
+}
+
+/// The answer to HELLO whose first word is the number of no protocol.
+fn refuse_version(word: &[u8], out: &mut OutText) -> Result<(), NoMemory>
+    ensures { OnOk result (out.new ≡ spelling (no_version word.now)) }
+{
+    if is_integer(word) {
+        return say(out, b"-NOPROTO unsupported protocol version\r\n");
+    }
+    say(
+        out,
+        b"-ERR Protocol version is not an integer or out of range\r\n",
+    )
 }
 
 /// The answer to HELLO with these words. What is given back is what they leave the connection.
@@ -233,27 +289,30 @@ pub(crate) fn hello<'a>(
     asker: &'a ClientInfo,
     words: &'a [Text],
     out: &mut OutText,
-) -> Result<Greeting<'a>, NoMemory>
+) -> Result<Welcome<'a>, NoMemory>
     ensures name { IfOk result (λ left. left.name.now ≡ hello_name asker.now words.now) }
     ensures admitted { IfOk result (λ left. left.admitted ≡ hello_admitted asker.now words.now) }
+    ensures protocol { IfOk result (λ left. left.protocol ≡ hello_protocol asker.now words.now) }
     ensures text { OnOk result (out.new ≡ spelling (hello asker.now words.now)) }
 {
-    if asks_for_2(words) {
-        return welcome(asker, words, out);
+    match protocol_asked(asker.protocol(), words) {
+        Some(protocol) => {
+            let left = welcomed(asker, protocol, words, out)?;
+            Ok(Welcome {
+                name: left.name,
+                admitted: left.admitted,
+                protocol: speaks_then(asker, left.refused, left.admitted, protocol),
+            })
+        }
+        None => {
+            refuse_version(first(words), out)?;
+            Ok(Welcome {
+                name: asker.name(),
+                admitted: asker.admitted(),
+                protocol: asker.protocol(),
+            })
+        }
     }
-    if is_integer(first(words)) {
-        say(out, b"-NOPROTO unsupported protocol version\r\n")?;
-    } else {
-        say(
-            out,
-            b"-ERR Protocol version is not an integer or out of range\r\n",
-        )?;
-    }
-    Ok(Greeting {
-        name: asker.name(),
-        admitted: asker.admitted(),
-        refused: true,
-    })
 }
 
 /// Whether AUTH with these words is answered OK.

@@ -25,6 +25,7 @@ mod listing;
 mod lookup;
 mod passwords;
 mod port_facts;
+mod protocols;
 mod refusals;
 mod subcommands;
 mod told_subcommands;
@@ -39,3 +40,4 @@ pub use laws::{
     law_own_values_are_left, law_strangers_reach_nothing, law_values_are_spelled_or_lines,
 };
 pub use port_facts::{ClientEntry, Figures, PortFacts};
+pub use protocols::Protocol;

@@ -4,13 +4,14 @@ ghost use Rattle.std.specs.Prelude.{◌≡◌, ◌++◌, ◌∷◌, ◌-◌, ◌
 ghost use Rattle.std.specs.List.{list_all};
 ghost use Rattle.resp2.specs.Framing.Frame as frames;
 ghost use Rattle.resp2.specs.Framing.Frame.{spelling};
-ghost use Rattle.client_commands.specs.ClientLines.{labelled, own_or, who, since_when, flags, to_what, uncounted, client_line, client_lines};
+ghost use Rattle.client_commands.specs.ClientLines.{labelled, own_or, who, since_when, flags, to_what, own_protocol, uncounted, client_line, client_lines};
 ghost use Rattle.client_commands.specs.Courtesies.{is_integer, lines_of, own_line, numbered_line, numbered_lines, listed_by_numbers, listed_by_kind, listed_by, client_list};
 
 use crate::choosing::{Wanted, kind_named};
 use crate::client_info::ClientInfo;
 use crate::hellos::is_integer;
 use crate::port_facts::ClientEntry;
+use crate::protocols::Protocol;
 use crate::refusals::{is_called, refuse_named, say};
 use ballot_law::{NoMemory, Text};
 use itoa::Buffer;
@@ -89,16 +90,25 @@ fn add_to_what(out: &mut OutText, entry: &ClientEntry) -> Result<(), NoMemory>
     out.add(b" ssub=0")
 }
 
-/// Adds what a port here doesn't count, and the last command.
+/// Which protocol the asker himself speaks, or another one.
+fn own_protocol(own: bool, mine: Protocol, other: Protocol) -> Protocol
+    ensures { result ≡ own_protocol own mine other }
+{
+    if own { mine } else { other }
+}
+
+/// Adds what a port here doesn't count, the last command, and which protocol it speaks.
 #[tactic(auto, unfolding(crate::specs::ClientLines::uncounted))]
-fn add_uncounted(out: &mut OutText, last: &[u8]) -> Result<(), NoMemory>
-    ensures { OnOk result (out.new ≡ out.old ++ uncounted last.now) }
+fn add_uncounted(out: &mut OutText, last: &[u8], speaks: Protocol) -> Result<(), NoMemory>
+    ensures { OnOk result (out.new ≡ out.old ++ uncounted last.now speaks) }
 {
     out.add(
         b" multi=-1 qbuf=0 qbuf-free=0 argv-mem=0 multi-mem=0 rbs=0 rbp=0 obl=0 oll=0 omem=0 tot-mem=0 events=r",
     )?;
     add_labelled(out, b" cmd=", last)?;
-    out.add(b" user=default redir=-1 resp=2\n")
+    out.add(b" user=default redir=-1")?;
+    add_counted(out, b" resp=", speaks.version())?;
+    out.add(b"\n")
 }
 
 /// Adds the line of a client, where this one asks by this command.
@@ -108,13 +118,14 @@ fn add_line(
     last: &[u8],
     entry: &ClientEntry,
 ) -> Result<(), NoMemory>
-    ensures { OnOk result (out.new ≡ out.old ++ client_line asker.now.id asker.now.name last.now asker.now.port.figures.clock entry.now) }
+    ensures { OnOk result (out.new ≡ out.old ++ client_line asker.now.id asker.now.name asker.now.protocol last.now asker.now.port.figures.clock entry.now) }
 {
     let own = asker.id() == entry.id();
     add_who(out, own_or(own, asker.name(), entry.name()), entry)?;
     add_since_when(out, asker.port().figures().clock, entry)?;
     add_to_what(out, entry)?;
-    add_uncounted(out, own_or(own, last, b"NULL"))
+    let speaks = own_protocol(own, asker.protocol(), entry.protocol());
+    add_uncounted(out, own_or(own, last, b"NULL"), speaks)
 }
 
 /// Adds the lines of the clients that are wanted.

@@ -3,6 +3,7 @@
 ghost use Rattle.std.specs.Prelude.{◌≡◌, ◌++◌, [], OnOk, OnErr};
 ghost use Rattle.client_commands.specs.Ports.{is_among, is_there, is_listener, no_figures};
 
+use crate::protocols::Protocol;
 use ballot_law::{Addr, NoMemory, RunId, Text};
 use std::alloc::Global;
 use std::marker::Model;
@@ -69,6 +70,8 @@ pub struct ClientEntry {
     pub local: Text,
     /// The name that it gave its connection, as its port knew it last; empty where it gave none.
     pub name: Text,
+    /// Which protocol it speaks, as its port knew it last.
+    pub protocol: Protocol,
     /// The clock's reading when it came, in milliseconds.
     pub came: u64,
     /// The clock's reading when its last bytes came.
@@ -93,6 +96,7 @@ impl Model for ClientEntry {
       address = entry.address;
       local = entry.local;
       name = entry.name;
+      protocol = entry.protocol;
       came = entry.came;
       heard = entry.heard;
       channels = entry.channels;
@@ -190,6 +194,13 @@ impl ClientEntry {
         ensures { result ≡ self.now.heard }
     {
         self.heard
+    }
+
+    /// Which protocol it speaks.
+    pub(crate) fn protocol(&self) -> Protocol
+        ensures { result ≡ self.now.protocol }
+    {
+        self.protocol
     }
 
     /// To how many channels it listens.

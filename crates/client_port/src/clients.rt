@@ -49,6 +49,13 @@ const UNSENT_ALL: usize = 268_435_456;
 /// How many unsent bytes a connection may leave in any case.
 const LEFT_MAX: usize = 16_384;
 
+/// How many connections may have room in which nothing is held, beside those that have a turn: as many as the system
+/// tells of at once, so that what those were answered that give it back is sent.
+const ROOMY_MAX: usize = 256;
+
+/// How many subscribers are told of what happened before the other connections have their turn.
+const TOLD_AT_ONCE: usize = 128;
+
 /// Whom a thread's connections are for: the password that is wanted of each client, where it isn't empty; after how
 /// many milliseconds without a byte one is closed that listens to nothing, where that isn't 0; and whether one goes
 /// for a further one.
@@ -85,6 +92,8 @@ pub(crate) struct Clients {
     next_id: u64,
     terms: Terms,
     roll: Roll,
+    told: Vec<News>,
+    untold: usize,
     alloc: Global,
     ghost few: { slab_len connections ≤ room.each },
 }
@@ -142,6 +151,8 @@ impl Clients {
             next_id: u64::from(thread) + 1,
             terms: terms_of(alloc, admission)?,
             roll: Roll::new(alloc, room.courteous(), most_of(room, admission)),
+            told: Vec::new(alloc),
+            untold: 0,
             alloc,
         })
     }
@@ -258,7 +269,6 @@ impl Clients {
         self.next_id = self.next_id.saturating_add(u64::from(self.room.threads()));
         let key = self.connections.vacant_key();
         self.make_room(key)?;
-        self.roll.add(key, &arrival)?;
         self.poll.registry().register(
             &mut stream,
             Token(key),
@@ -269,8 +279,15 @@ impl Clients {
             is_peer,
             came: self.reading,
         };
-        self.connections
-            .insert(Connection::new(stream, session, origin))?;
+        // (who isn't served stands on no list of clients)
+        self.roll.add(key, &arrival)?;
+        let kept = self
+            .connections
+            .insert(Connection::new(stream, session, origin));
+        if kept.is_err() {
+            self.roll.remove(key);
+        }
+        kept?;
         Ok(true)
     }
 
@@ -400,6 +417,7 @@ impl Clients {
         let key = event.token().0;
         if self.note_event(key, event) {
             self.answer_one(rt, state, member, seat, key);
+            self.rest_first();
         }
     }
 
@@ -504,15 +522,9 @@ impl Clients {
         }
     }
 
-    /// Tells one connection of a master's new address or of another event, and closes it where it has no memory for
-    /// that.
+    /// Tells one connection of what happened, and closes it where it has no memory for that.
     #[tactic(auto, using(crate::proofs::Keeping::kept_few, crate::proofs::Keeping::others_kept, crate::proofs::Keeping::others_closed))]
-    fn tell_one<J: Which, S: ConfStore>(
-        &mut self,
-        member: &RunningSentinel<J, S>,
-        news: &News,
-        key: usize,
-    )
+    fn tell_one<J: Which, S: ConfStore>(&mut self, member: &RunningSentinel<J, S>, key: usize)
         ensures others { (other : ℕ) → other ≢ key → get self.new.connections other ≡ get self.old.connections other }
     {
         let Some(connection) = self.connections.get_mut(key) else {
@@ -521,7 +533,7 @@ impl Clients {
         if !connection.listens() {
             return;
         }
-        if !connection.tell(member, news) {
+        if !connection.tell(member, self.told.as_slice()) {
             return self.close(key);
         }
         self.waiting.listeners.join(key);
@@ -529,13 +541,19 @@ impl Clients {
         self.count_unsent(key);
     }
 
-    /// Tells the subscribers of a master's new address or of another event, each in its turn. Those that listen no
+    /// Tells the next `TOLD_AT_ONCE` of the subscribers that aren't told yet of what happened. Those that listen no
     /// more leave the line.
-    fn tell_all<J: Which, S: ConfStore>(&mut self, member: &RunningSentinel<J, S>, news: &News) {
-        for _ in 0..self.waiting.listeners.len() {
+    fn tell_next<J: Which, S: ConfStore>(&mut self, member: &RunningSentinel<J, S>) {
+        let count = self.untold.min(TOLD_AT_ONCE);
+        self.untold -= count;
+        for _ in 0..count {
             if let Some(key) = self.waiting.listeners.next() {
-                self.tell_one(member, news, key);
+                self.tell_one(member, key);
+                self.rest_first();
             }
+        }
+        if self.untold > 0 {
+            self.busy = true;
         }
     }
 
@@ -553,16 +571,22 @@ impl Clients {
 
     /// Tells the subscribers of each new address and, where connections have courtesies, of each other event that a
     /// thread of the Sentinel showed since the last turn of the port's thread with this number, which has them, in the
-    /// order in which they came.
+    /// order in which they came. Where there are many, some are told in this turn and the others in the next ones, so
+    /// that no other client waits until all are; what happens meanwhile they are told after that.
     pub(crate) fn tell_news<J: Which, S: ConfStore, R: Wait>(
         &mut self,
         rt: &R,
         member: &RunningSentinel<J, S>,
         thread: u16,
     ) {
-        for news in &member.take_news(rt, thread) {
-            self.tell_all(member, news);
+        if self.untold == 0 {
+            self.told = member.take_news(rt, thread);
+            if self.told.is_empty() {
+                return;
+            }
+            self.untold = self.waiting.listeners.len();
         }
+        self.tell_next(member);
     }
 
     /// Whether the connections have courtesies.
@@ -672,6 +696,20 @@ impl Clients {
             connection.rest();
         } else {
             self.waiting.active.join(key);
+        }
+    }
+
+    /// Where more than `ROOMY_MAX` may have room in which nothing is held, the one gives it back that has had it for
+    /// longest: else many that had a turn each within `LOOK_MS` would all have some.
+    #[tactic(auto, using(crate::proofs::Keeping::kept_few))]
+    fn rest_first(&mut self) {
+        if self.waiting.active.len() <= ROOMY_MAX {
+            return;
+        }
+        if let Some(key) = self.waiting.active.next()
+            && let Some(connection) = self.connections.get_mut(key)
+        {
+            connection.rest();
         }
     }
 

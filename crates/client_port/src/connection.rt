@@ -10,7 +10,8 @@ use crate::read_buffer::{PIECE, ReadBuffer};
 use crate::seats::Place;
 use crate::standing::Standing;
 use crate::waiting::Line;
-use client_commands::PortFacts;
+use ballot_law::NoMemory;
+use client_commands::{PortFacts, Protocol};
 use courteous_sessions::ClientSession;
 use sentinel_conf::ConfStore;
 use sentinel_core::ServeFault;
@@ -130,6 +131,11 @@ impl<T: Read + Write + Drop> Connection<T> {
         self.session.name()
     }
 
+    /// Which protocol its client speaks.
+    pub(crate) fn protocol(&self) -> Protocol {
+        self.session.protocol()
+    }
+
     /// To how many channels its client listens, and for how many patterns.
     pub(crate) fn subscriptions(&self) -> (u32, u32) {
         self.session.subscriptions()
@@ -247,23 +253,37 @@ impl<T: Read + Write + Drop> Connection<T> {
         true
     }
 
-    /// Tells its client of a master's new address or of another event, where it has subscribed to that: whether the
-    /// connection is whole, had memory for it, and doesn't leave so much unread that no event is told.
-    pub(crate) fn tell<J: Which, S: ConfStore>(
+    /// Has what its client is told of a master's new address or of another event, where it has subscribed to that, join
+    /// what isn't sent yet: whether anything does. The error is that it has no memory for it, or leaves so much unread
+    /// that no event is told.
+    fn add_news<J: Which, S: ConfStore>(
         &mut self,
         member: &RunningSentinel<J, S>,
         news: &News,
-    ) -> bool {
-        let told = match news {
+    ) -> Result<bool, NoMemory> {
+        match news {
             News::Switch(switch) => member.notify(&mut self.session, switch),
-            News::Event(_) if self.session.unsent().len() >= TOLD_MAX => return false,
+            News::Event(_) if self.session.unsent().len() >= TOLD_MAX => Err(NoMemory),
             News::Event(event) => self.session.tell_event(event),
-        };
-        match told {
-            Ok(false) => true,
-            Ok(true) => self.send(),
-            Err(_) => false,
         }
+    }
+
+    /// Tells its client of these new addresses and other events, in their order and by one write, of which it is told
+    /// those to which it has subscribed: whether the connection is whole, had memory for them, and doesn't leave so
+    /// much unread that no event is told.
+    pub(crate) fn tell<J: Which, S: ConfStore>(
+        &mut self,
+        member: &RunningSentinel<J, S>,
+        news: &[News],
+    ) -> bool {
+        let mut is_told = false;
+        for one in news {
+            match self.add_news(member, one) {
+                Ok(told) => is_told |= told,
+                Err(_) => return false,
+            }
+        }
+        !is_told || self.send()
     }
 
     /// Reads once, in the turn that began at this reading of the clock: whether the connection is whole. A read that

@@ -4,7 +4,7 @@ use crate::connection::Connection;
 use crate::process_times::{ProcessTimes, ReadsTimes};
 use crate::seats::Seats;
 use ballot_law::{Addr, RunId, Text};
-use client_commands::{ClientEntry, Figures, PortFacts};
+use client_commands::{ClientEntry, Figures, PortFacts, Protocol};
 use sentinel_conf::ConfStore;
 use sentinel_runtime::{RunningSentinel, Which};
 use std::alloc::{AllocError, Global};
@@ -87,6 +87,7 @@ impl Roll {
             address: text_of(self.alloc, arrival.address)?,
             local: text_of(self.alloc, arrival.local)?,
             name: Text::from_vec(Vec::new(self.alloc)),
+            protocol: Protocol::Two,
             came: arrival.came,
             heard: arrival.came,
             channels: 0,
@@ -153,6 +154,7 @@ impl Roll {
         let (channels, patterns) = connection.subscriptions();
         entry.channels = channels;
         entry.patterns = patterns;
+        entry.protocol = connection.protocol();
         if entry.name.as_slice() != connection.name()
             && let Ok(name) = Text::from_slice(self.alloc, connection.name())
         {

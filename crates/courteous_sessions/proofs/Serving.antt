@@ -7,9 +7,11 @@ use Rattle.ballot_law.specs.declared.commands.Command.TheVariants.{Ping, IsMaste
 use Rattle.pubsub.specs.declared.answers.Turn.{Turn}
 use Rattle.pubsub.specs.declared.answers.Turn.TheVariants.{Other as Untouched, Said as Turned}
 use Rattle.pubsub.specs.Answering.{Answer as ChannelAnswer, other, said as confirmed, answer as channel_answer, turn_of, text_of as text_of_turn, listening_after}
-use Rattle.pubsub.specs.Listening.{Listening, is_listening}
+use Rattle.pubsub.specs.Listening.{Listening}
 use Rattle.pubsub.proofs.OwnCommands.{subscribe_is_said}
 use Rattle.client_commands.specs.Attendants.{Attendance}
+use Rattle.client_commands.specs.declared.protocols.Protocol.{Protocol}
+use Rattle.client_commands.specs.declared.protocols.Protocol.TheVariants.{Two, Three}
 use Rattle.client_commands.proofs.Strangers.{strangers_are_answered}
 use Rattle.client_commands.specs.Courtesies.{is_stranger, ClientInfo, Answer, left, said, asks_masters, silent, courtesy, asker_after, kind_of, text_of}
 use Rattle.client_commands.specs.declared.courtesies.Courtesy.TheVariants.{Left, Said, AsksMasters}
@@ -29,8 +31,8 @@ use Rattle.resp2.specs.Framing.Stream.{Held, reading, ended, bytes_in, Feeds}
 use Rattle.sentinel_cell.specs.declared.view.View.{View}
 use Rattle.sentinel_cell.specs.Histories.{World}
 use Rattle.courteous_sessions.specs.Epochs.{heard_as}
-use Rattle.courteous_sessions.specs.Visits.{Guest, guest, hears_switches, channel_turn, told_after, TellsInfo, Answers, Serves, ServesBy, ServesAll, IsAnswered, IsRefused, IsCut, Breaks, Receives}
-use Rattle.courteous_sessions.specs.OnTheWay.{IsIdle, IsReady, IsTuned, IsOnTheWay, IsDone, Steps, Drains, Refuses, guest_of}
+use Rattle.courteous_sessions.specs.Visits.{Guest, guest, hears_switches, turn_in, channel_turn, is_confined, confined, told_after, TellsInfo, Answers, Serves, ServesBy, ServesBesideBy, ServesBeside, ServesIn, Tells, ServesAll, IsAnswered, IsRefused, IsCut, Breaks, Receives}
+use Rattle.courteous_sessions.specs.OnTheWay.{AnswersBeside, IsIdle, IsReady, IsTuned, IsOnTheWay, IsDone, Steps, Drains, Refuses, guest_of}
 
 -- ---- what the reading of a value and an attendant's turn say
 
@@ -62,12 +64,13 @@ module _ (start : World) (now : ℕ) where
   asked_answered asker silent p value bytes q is h = absurd (let no : ⊥ = cc in no)
   asked_answered asker asks_masters p value bytes q is h = h
 
-asker_is : (attended : Attendance) (l : Listening) (talk : Talk) (v : View) → attended.asker.listens ≡ is_listening l → attended.asker ≡ (guest_of attended l talk v).asker
+asker_is : (attended : Attendance) (l : Listening) (talk : Talk) (v : View) → attended.asker.listens ≡ is_confined attended.asker.protocol l
+    → attended.asker ≡ (guest_of attended l talk v).asker
 asker_is attended l talk v h = ap (λ (b : Bool). let a : ClientInfo = record attended.asker { listens = b } in a) h
 
 module _ (start : World) (now : ℕ) where
   -- the session below answers any command but SUBSCRIBE, and then it listens to notes as before
-  responds_alike : (p : Party) (command : Result Command CommandFault) (bytes : List ℕ) (q : Party) → command ≢ Ok Subscribe → Responds start now p command bytes q
+  pub responds_alike : (p : Party) (command : Result Command CommandFault) (bytes : List ℕ) (q : Party) → command ≢ Ok Subscribe → Responds start now p command bytes q
       → q.listens ≡ p.listens
   responds_alike p command bytes q not h = at p.listens command not h where
     at : (since : Option ℕ) (c : Result Command CommandFault) → c ≢ Ok Subscribe → RespondsAt start now since p.view c bytes q → q.listens ≡ since
@@ -87,7 +90,7 @@ module _ (start : World) (now : ℕ) where
     at None (Ok FlushConfig) differs r = r.1
 
   -- what isn't SUBSCRIBE is heard as no SUBSCRIBE
-  heard_otherwise : (current : Option ℕ) (asked : Result Command CommandFault) → asked ≢ Ok Subscribe → heard_as current asked ≢ Ok Subscribe
+  pub heard_otherwise : (current : Option ℕ) (asked : Result Command CommandFault) → asked ≢ Ok Subscribe → heard_as current asked ≢ Ok Subscribe
   heard_otherwise current (Err fault) differs e = let no : ⊥ = cc in no
   heard_otherwise current (Ok Subscribe) differs e = differs refl
   heard_otherwise current (Ok Ping) differs e = let no : ⊥ = cc in no
@@ -115,11 +118,26 @@ stranger_or_not : (test : Bool) (given : ChannelAnswer) → elim test as (λ _. 
 stranger_or_not true given h = inl refl
 stranger_or_not false given h = inr h
 
+-- at protocol 2 Pub/Sub is asked of each value
+in_two : (asker : ClientInfo) (l : Listening) (value : Frame) → asker.protocol ≡ Two → turn_in asker.protocol l value ≡ other → channel_answer value l ≡ other
+in_two asker l value speaks is = ap (λ (p : Protocol). turn_in p l value) (sym speaks) ∙ is
+
 not_subscribe : (value : Frame) (l : Listening) → channel_answer value l ≡ other → redis_command_of value ≢ Ok Subscribe
 not_subscribe value l is asks =
     let given = subscribe_is_said value l asks in
     let clash : other ≡ confirmed given.0 given.1 = sym is ∙ given.2 in
     let no : ⊥ = cc in no
+
+-- it was noted whether the connection has other commands
+pub noted : (mid after : Attendance) (l m : Listening) (asker : ClientInfo) → after ≡ record mid { asker = record mid.asker { listens = is_confined mid.asker.protocol m } }
+    → m ≡ l → mid.asker ≡ asker
+    → (confined l after.asker ≡ confined l asker) × (after.asker.listens ≡ is_confined after.asker.protocol l) × (after.held ≡ mid.held)
+noted mid after l m asker is same known =
+    let now : after.asker ≡ (let a : ClientInfo = record mid.asker { listens = is_confined mid.asker.protocol m } in a) = ap (λ (a : Attendance). a.asker) is in (
+      ap (confined l) now ∙ ap (confined l) known,
+      ap (λ (a : ClientInfo). a.listens) now ∙ ap (is_confined mid.asker.protocol) same ∙ sym (ap (λ (a : ClientInfo). is_confined a.protocol l) now),
+      ap (λ (a : Attendance). a.held) is,
+    )
 
 module _ (start : World) (now : ℕ) where
   -- what a courtesy says takes no turn
@@ -130,12 +148,12 @@ module _ (start : World) (now : ℕ) where
   said_alike asker asks_masters p value bytes q is h = absurd (let no : ⊥ = cc in no)
 
   -- where Pub/Sub doesn't answer a value, the session below listens to notes after it as before
-  pub listens_alike : (asker : ClientInfo) (l : Listening) (p : Party) (value : Frame) (bytes : List ℕ) (q : Party) → channel_turn asker l value ≡ other
-      → Answers start now asker (courtesy asker value) p value bytes q → q.listens ≡ p.listens
-  listens_alike asker l p value bytes q none h = at (stranger_or_not (is_stranger asker) (channel_answer value l) none) where
-    at : (is_stranger asker ≡ true) ⊎ (channel_answer value l ≡ other) → q.listens ≡ p.listens
+  pub listens_alike : (asker : ClientInfo) (l : Listening) (p : Party) (value : Frame) (bytes : List ℕ) (q : Party) → asker.protocol ≡ Two
+      → channel_turn asker l value ≡ other → Answers start now asker (courtesy asker value) p value bytes q → q.listens ≡ p.listens
+  listens_alike asker l p value bytes q speaks none h = at (stranger_or_not (is_stranger asker) (turn_in asker.protocol l value) none) where
+    at : (is_stranger asker ≡ true) ⊎ (turn_in asker.protocol l value ≡ other) → q.listens ≡ p.listens
     at (inl stranger) = said_alike asker (courtesy asker value) p value bytes q (strangers_are_answered asker value stranger) h
-    at (inr is) = answers_alike start now asker (courtesy asker value) p value bytes q (not_subscribe value l is) h
+    at (inr is) = answers_alike start now asker (courtesy asker value) p value bytes q (not_subscribe value l (in_two asker l value speaks is)) h
 
   same_words : (asker : ClientInfo) (value : Frame) (becomes : Answer) (p : Party) (bytes : List ℕ) (q : Party)
       → Answers start now (asker_after asker value) becomes p value bytes q → Answers start now asker becomes p value bytes q
@@ -146,14 +164,14 @@ module _ (start : World) (now : ℕ) where
 
   -- a value was attended to, and then answered by what became of it
   pub served_by_others : (before after : Attendance) (l : Listening) (talk later : Talk) (v w : View) (value : Frame) (more : List ℕ) → IsReady before l talk
-      → channel_turn before.asker l value ≡ other → after.asker ≡ asker_after before.asker value → later.told ≡ talk.told
+      → channel_turn before.asker l value ≡ other → confined l after.asker ≡ confined l (asker_after before.asker value) → later.told ≡ talk.told
       → Answers start now before.asker (courtesy before.asker value) (party v talk.listens) value more (party w later.listens)
       → Serves start now (guest_of before l talk v) value more (guest_of after l later w)
   served_by_others before after l talk later v w value more ready none is told a =
       let q = party w later.listens in
       let at = λ (x : ClientInfo). let g : Guest = record { party = party v talk.listens; asker = x; listening = l; told = talk.told } in g in
       let known : guest q l later.told after.asker ≡ guest q l talk.told (asker_after before.asker value) =
-      ap (λ (t : List (Option ℕ)). guest q l t after.asker) told ∙ ap (λ (x : ClientInfo). guest q l talk.told x) is
+      ap (λ (t : List (Option ℕ)). guest q l t after.asker) told ∙ ap (λ (x : ClientInfo). let h : Guest = record { party = q; asker = x; listening = l; told = talk.told } in h) is
       in
       let by : ServesBy start now other (at before.asker) value more (guest_of after l later w) = (q, a, known) in
       let here : ServesBy start now (channel_turn before.asker l value) (at before.asker) value more (guest_of after l later w) =
@@ -163,14 +181,14 @@ module _ (start : World) (now : ℕ) where
 
   -- it is ready for the next one then
   pub ready_by_others : (before after : Attendance) (l : Listening) (talk later : Talk) (v w : View) (value : Frame) (more : List ℕ) → IsReady before l talk
-      → channel_turn before.asker l value ≡ other → after.asker ≡ asker_after before.asker value → after.held ≡ before.held → IsIdle later
-      → Answers start now before.asker (courtesy before.asker value) (party v talk.listens) value more (party w later.listens) → IsReady after l later
-  ready_by_others before after l talk later v w value more ready none is held idle a =
+      → before.asker.protocol ≡ Two → channel_turn before.asker l value ≡ other → after.asker.listens ≡ is_confined after.asker.protocol l → after.held ≡ before.held
+      → IsIdle later → Answers start now before.asker (courtesy before.asker value) (party v talk.listens) value more (party w later.listens) → IsReady after l later
+  ready_by_others before after l talk later v w value more ready speaks none is held idle a =
       record {
         reads = held ∙ ready.reads ∙ ap (λ (h : Held). reading (bytes_in h)) (sym held);
         idle = idle;
-        listens = ap (λ (x : ClientInfo). x.listens) is ∙ ready.listens;
-        hears = ap (λ (since : Option ℕ). is_some since) (listens_alike before.asker l (party v talk.listens) value more (party w later.listens) none a) ∙ ready.hears;
+        listens = is;
+        hears = ap (λ (since : Option ℕ). is_some since) (listens_alike before.asker l (party v talk.listens) value more (party w later.listens) speaks none a) ∙ ready.hears;
       }
 
   -- what a connection's own words change of it makes no difference to how an answer is told
@@ -188,13 +206,14 @@ module _ (start : World) (now : ℕ) where
   )
 
   pub answered_by_others : (before after : Attendance) (l later_l : Listening) (talk later : Talk) (v w : View) (value : Frame) (unsent given : List ℕ) → IsReady before l talk
-      → channel_turn before.asker l value ≡ other → after.asker ≡ asker_after before.asker value → after.held ≡ before.held → later.told ≡ talk.told → later_l ≡ l
+      → before.asker.protocol ≡ Two → channel_turn before.asker l value ≡ other → confined l after.asker ≡ confined l (asker_after before.asker value)
+      → after.asker.listens ≡ is_confined after.asker.protocol l → after.held ≡ before.held → later.told ≡ talk.told → later_l ≡ l
       → (more : List ℕ) × (given ≡ unsent ++ more) × IsIdle later
       × Answers start now before.asker (courtesy before.asker value) (party v talk.listens) value more (party w later.listens)
       → (more : List ℕ) × (given ≡ unsent ++ more) × IsReady after later_l later
       × Serves start now (guest_of before l talk v) value more (guest_of after later_l later w)
-  answered_by_others before after l later_l talk later v w value unsent given ready none is held told same got =
-      let is_ready = ready_by_others before after l talk later v w value got.0 ready none is held got.2 got.3 in
+  answered_by_others before after l later_l talk later v w value unsent given ready speaks none is confines held told same got =
+      let is_ready = ready_by_others before after l talk later v w value got.0 ready speaks none confines held got.2 got.3 in
       let serves = served_by_others before after l talk later v w value got.0 ready none is told got.3 in (
         got.0,
         got.1,
@@ -202,10 +221,79 @@ module _ (start : World) (now : ℕ) where
         subst (λ (x : Listening). Serves start now (guest_of before l talk v) value got.0 (guest_of after x later w)) (sym same) serves,
       )
 
+  -- at protocol 3 a session beside the one below answered it, which listens to notes as before
+  pub answered_beside : (before after : Attendance) (l later_l : Listening) (talk later : Talk) (v w : View) (value : Frame) (unsent given : List ℕ) → IsReady before l talk
+      → channel_turn before.asker l value ≡ other → confined l after.asker ≡ confined l (asker_after before.asker value)
+      → after.asker.listens ≡ is_confined after.asker.protocol l → after.held ≡ before.held → later ≡ talk → later_l ≡ l
+      → AnswersBeside start now before.asker (courtesy before.asker value) v value unsent given w
+      → (more : List ℕ) × (given ≡ unsent ++ more) × IsReady after later_l later
+      × ServesBeside start now (guest_of before l talk v) value more (guest_of after later_l later w)
+  answered_beside before after l later_l talk later v w value unsent given ready none is confines held same_talk same got =
+      let more = got.answer in
+      let g = guest_of before l talk v in
+      let at = λ (x : ClientInfo). let g : Guest = record { party = party v talk.listens; asker = x; listening = l; told = talk.told } in g in
+      let h = guest_of after l talk w in
+      let known : h ≡ guest (party w talk.listens) l talk.told (asker_after before.asker value) =
+      ap (λ (x : ClientInfo). let h : Guest = record { party = party w talk.listens; asker = x; listening = l; told = talk.told } in h) is
+      in
+      let by : ServesBesideBy start now other (at before.asker) value more h = (party w got.listens, got.answers, known) in
+      let here : ServesBesideBy start now (channel_turn before.asker l value) (at before.asker) value more h =
+      subst (λ (t : ChannelAnswer). ServesBesideBy start now t (at before.asker) value more h) (sym none) by
+      in
+      let there : ServesBeside start now g value more h =
+      subst (λ (x : ClientInfo). ServesBesideBy start now (channel_turn x l value) (at x) value more h) (asker_is before l talk v ready.listens) here
+      in
+      let is_ready : IsReady after l talk =
+      record {
+        reads = held ∙ ready.reads ∙ ap (λ (h : Held). reading (bytes_in h)) (sym held);
+        idle = ready.idle;
+        listens = confines;
+        hears = ready.hears;
+      }
+      in (
+        more,
+        got.left_is,
+        subst (λ (x : Listening). IsReady after x later) (sym same) (subst (λ (t : Talk). IsReady after l t) (sym same_talk) is_ready),
+        subst (λ (x : Listening). ServesBeside start now g value more (guest_of after x later w)) (sym same)
+            (subst (λ (t : Talk). ServesBeside start now g value more (guest_of after l t w)) (sym same_talk) there),
+      )
+
+  -- there a session below that listens to no notes may answer it too
+  pub served_unheard : (before after : Attendance) (l : Listening) (talk later : Talk) (v w : View) (value : Frame) (more : List ℕ) (listens : Option ℕ) → IsReady before l talk
+      → channel_turn before.asker l value ≡ other → confined l after.asker ≡ confined l (asker_after before.asker value) → later.told ≡ talk.told
+      → later.listens ≡ talk.listens
+      → Answers start now before.asker (courtesy before.asker value) (party v None) value more (party w listens)
+      → ServesBeside start now (guest_of before l talk v) value more (guest_of after l later w)
+  served_unheard before after l talk later v w value more listens ready none is told since a =
+      let at = λ (x : ClientInfo). let g : Guest = record { party = party v talk.listens; asker = x; listening = l; told = talk.told } in g in
+      let h = guest_of after l later w in
+      let known : h ≡ guest (party w talk.listens) l talk.told (asker_after before.asker value) =
+      ap (λ (t : List (Option ℕ)). guest (party w later.listens) l t after.asker) told
+      ∙ ap (λ (s : Option ℕ). guest (party w s) l talk.told after.asker) since
+      ∙ ap (λ (x : ClientInfo). let h : Guest = record { party = party w talk.listens; asker = x; listening = l; told = talk.told } in h) is
+      in
+      let by : ServesBesideBy start now other (at before.asker) value more h = (party w listens, a, known) in
+      let here : ServesBesideBy start now (channel_turn before.asker l value) (at before.asker) value more h =
+      subst (λ (t : ChannelAnswer). ServesBesideBy start now t (at before.asker) value more h) (sym none) by
+      in
+      subst (λ (x : ClientInfo). ServesBesideBy start now (channel_turn x l value) (at x) value more h) (asker_is before l talk v ready.listens) here
+
+  -- what a connection's own words change of it makes no difference to how it is answered beside
+  pub asked_beside : (asker after : ClientInfo) (value : Frame) (becomes : Answer) (unsent given : List ℕ) (v w : View) → after ≡ asker_after asker value
+      → AnswersBeside start now after becomes v value unsent given w → AnswersBeside start now asker becomes v value unsent given w
+  asked_beside asker after value becomes unsent given v w is got =
+      record {
+        answer = got.answer;
+        listens = got.listens;
+        left_is = got.left_is;
+        answers = same_words asker value becomes (party v None) got.answer (party w got.listens)
+            (subst (λ (x : ClientInfo). Answers start now x becomes (party v None) value got.answer (party w got.listens)) is got.answers);
+      }
+
   -- Pub/Sub answered a value
   pub served_by_channels : (before after : Attendance) (l later_l : Listening) (talk later : Talk) (v w : View) (value : Frame) (more : List ℕ) (t : ChannelAnswer)
       → IsReady before l talk → channel_turn before.asker l value ≡ t → turn_of t ≡ Turned → later_l ≡ listening_after l t → more ≡ text_of_turn t
-      → IsTuned start now (hears_switches later_l) talk v later w → after.asker ≡ record before.asker { listens = is_listening later_l }
+      → IsTuned start now (hears_switches later_l) talk v later w → after.asker ≡ record before.asker { listens = is_confined before.asker.protocol later_l }
       → Serves start now (guest_of before l talk v) value more (guest_of after later_l later w)
   served_by_channels before after l later_l talk later v w value more other ready turn is now_l text tuned asker = absurd (let no : ⊥ = cc in no)
   served_by_channels before after l later_l talk later v w value more (confirmed answers m) ready turn is now_l text tuned asker =
@@ -226,20 +314,21 @@ module _ (start : World) (now : ℕ) where
       subst (λ (x : ClientInfo). ServesBy start now (channel_turn x l value) (at x) value more h) (asker_is before l talk v ready.listens) here
 
   pub ready_by_channels : (before after : Attendance) (l later_l : Listening) (talk later : Talk) (v w : View) → IsReady before l talk
-      → IsTuned start now (hears_switches later_l) talk v later w → after.asker ≡ record before.asker { listens = is_listening later_l } → after.held ≡ before.held
+      → IsTuned start now (hears_switches later_l) talk v later w → after.asker ≡ record before.asker { listens = is_confined before.asker.protocol later_l }
+      → after.held ≡ before.held
       → IsReady after later_l later
   ready_by_channels before after l later_l talk later v w ready tuned asker held =
       record {
         reads = held ∙ ready.reads ∙ ap (λ (h : Held). reading (bytes_in h)) (sym held);
         idle = tuned.idle;
-        listens = ap (λ (x : ClientInfo). x.listens) asker;
+        listens = ap (λ (x : ClientInfo). x.listens) asker ∙ sym (ap (λ (x : ClientInfo). is_confined x.protocol later_l) asker);
         hears = tuned.listens;
       }
 
   pub answered_by_channels : (before after : Attendance) (l now_l later_l : Listening) (talk later : Talk) (v w : View) (value : Frame) (unsent given text : List ℕ)
       (turn : Turn) → IsReady before l talk → turn ≡ Turned → turn ≡ turn_of (channel_turn before.asker l value) → now_l ≡ listening_after l (channel_turn before.asker l value)
       → text ≡ text_of_turn (channel_turn before.asker l value) → IsTuned start now (hears_switches now_l) talk v later w
-      → after ≡ record before { asker = record before.asker { listens = is_listening now_l } } → later_l ≡ now_l → given ≡ unsent ++ text
+      → after ≡ record before { asker = record before.asker { listens = is_confined before.asker.protocol now_l } } → later_l ≡ now_l → given ≡ unsent ++ text
       → (more : List ℕ) × (given ≡ unsent ++ more) × IsReady after later_l later
       × Serves start now (guest_of before l talk v) value more (guest_of after later_l later w)
   answered_by_channels before after l now_l later_l talk later v w value unsent given text turn ready is_said is now_is text_is tuned is_after same out =
@@ -252,6 +341,20 @@ module _ (start : World) (now : ℕ) where
         subst (λ (x : Listening). IsReady after x later) (sym same) is_ready,
         subst (λ (x : Listening). Serves start now (guest_of before l talk v) value text (guest_of after x later w)) (sym same) serves,
       )
+
+  -- at protocol 3 Pub/Sub answers as at protocol 2
+  confirmed_alike : (t : ChannelAnswer) (g : Guest) (value : Frame) (bytes : List ℕ) (h : Guest) → turn_of t ≡ Turned → ServesBy start now t g value bytes h
+      → ServesBesideBy start now t g value bytes h
+  confirmed_alike other g value bytes h is s = absurd (let no : ⊥ = cc in no)
+  confirmed_alike (confirmed answers m) g value bytes h is s = s
+
+  pub confirmed_in : (protocol : Protocol) (before : Attendance) (l : Listening) (talk : Talk) (v : View) (value : Frame) (bytes : List ℕ) (h : Guest)
+      → IsReady before l talk → Turned ≡ turn_of (channel_turn before.asker l value) → Serves start now (guest_of before l talk v) value bytes h
+      → ServesIn start now protocol (guest_of before l talk v) value bytes h
+  confirmed_in Two before l talk v value bytes h ready is s = s
+  confirmed_in Three before l talk v value bytes h ready is s =
+      confirmed_alike (channel_turn (confined l before.asker) l value) (guest_of before l talk v) value bytes h
+      (sym (is ∙ ap (λ (x : ClientInfo). turn_of (channel_turn x l value)) (asker_is before l talk v ready.listens))) s
 
 -- ---- where Pub/Sub makes nothing of a value
 
@@ -272,33 +375,35 @@ turn_same before same l m value is a b =
     ap (λ (x : Attendance). channel_turn x.asker m value) a ∙ ap (λ (x : Listening). channel_turn before.asker x value) b ∙ is
 
 module _ (start : World) (now : ℕ) where
-  pub served_same : {X : Type 0} (before same : Attendance) (l m : Listening) (talk kept : Talk) (v : View) (value : Frame) (unsent held_back given : List ℕ) (h : Guest)
-      → same ≡ before → m ≡ l → kept ≡ talk → held_back ≡ unsent → (more : List ℕ) × (given ≡ held_back ++ more) × X × Serves start now (guest_of same m kept v) value more h
-      → (more : List ℕ) × (given ≡ unsent ++ more) × X × Serves start now (guest_of before l talk v) value more h
-  served_same before same l m talk kept v value unsent held_back given h a b c d got = (
+  pub served_same : {X : Type 0} (protocol spoken : Protocol) (before same : Attendance) (l m : Listening) (talk kept : Talk) (v : View) (value : Frame)
+      (unsent held_back given : List ℕ) (h : Guest) → spoken ≡ protocol → same ≡ before → m ≡ l → kept ≡ talk → held_back ≡ unsent
+      → (more : List ℕ) × (given ≡ held_back ++ more) × X × ServesIn start now protocol (guest_of same m kept v) value more h
+      → (more : List ℕ) × (given ≡ unsent ++ more) × X × ServesIn start now spoken (guest_of before l talk v) value more h
+  served_same protocol spoken before same l m talk kept v value unsent held_back given h speaks a b c d got = (
     got.0,
     got.1 ∙ ap (λ (t : List ℕ). t ++ got.0) d,
     got.2,
-    subst (λ (x : Attendance). Serves start now (guest_of x l talk v) value got.0 h) a
-        (subst (λ (x : Listening). Serves start now (guest_of same x talk v) value got.0 h) b
-        (subst (λ (x : Talk). Serves start now (guest_of same m x v) value got.0 h) c got.3)),
+    subst (λ (p : Protocol). ServesIn start now p (guest_of before l talk v) value got.0 h) (sym speaks)
+        (subst (λ (x : Attendance). ServesIn start now protocol (guest_of x l talk v) value got.0 h) a
+        (subst (λ (x : Listening). ServesIn start now protocol (guest_of same x talk v) value got.0 h) b
+        (subst (λ (x : Talk). ServesIn start now protocol (guest_of same m x v) value got.0 h) c got.3))),
   )
 
 -- ---- values of a stream
 
 module _ (start : World) (now : ℕ) where
   serves-push : (g : Guest) (values : List Frame) (bytes : List ℕ) (m : Guest) (value : Frame) (more : List ℕ) (h : Guest)
-      → ServesAll start now g values bytes m → Serves start now m value more h
+      → ServesAll start now g values bytes m → Tells start now m value more h
       → ServesAll start now g (values ++ value ∷ []) (bytes ++ more) h
   serves-push g [] bytes m value more h a r =
-      (h, more, [], ap (λ (t : List ℕ). t ++ more) a.0 ∙ sym (append-nil more), subst (λ (x : Guest). Serves start now x value more h) a.1 r, (refl, refl))
+      (h, more, [], ap (λ (t : List ℕ). t ++ more) a.0 ∙ sym (append-nil more), subst (λ (x : Guest). Tells start now x value more h) a.1 r, (refl, refl))
   serves-push g (x ∷ xs) bytes m value more h a r =
       (a.0, a.1, a.2 ++ more, ap (λ (t : List ℕ). t ++ more) a.3 ∙ append_assoc a.1 a.2 more, a.4, serves-push a.0 xs a.2 m value more h a.5 r)
 
   -- a value was answered
   pub value_served : (stream : List ℕ) (g : Guest) (held : Held) (bytes : List ℕ) (m : Guest) (value : Frame) (rest : List ℕ) (after : Held) (more : List ℕ) (h : Guest)
       → IsOnTheWay start now stream g held bytes m → value_at (bytes_in held) ≡ Ok (value, rest) → after ≡ reading rest
-      → Serves start now m value more h → IsOnTheWay start now stream g after (bytes ++ more) h
+      → Tells start now m value more h → IsOnTheWay start now stream g after (bytes ++ more) h
   value_served stream g held bytes m value rest after more h a found is r =
       let now_held : bytes_in held ≡ a.rest = ap bytes_in a.held_is in
       record {

@@ -1,14 +1,20 @@
 -- One step of the answering of a piece: from what the calls of it promise to what is on the way after it.
-use Rattle.std.proofs.Common.{◌≡◌, ◌⊎◌, ℕ, Bool, true, false, List, [], ◌++◌, Option, Some, None, Result, Ok, Err, refl, sym, ap, ◌∙◌, subst, append_assoc, append-nil, true≢false}
+use Rattle.std.proofs.Common.{◌≡◌, ◌≢◌, ◌⊎◌, ◌≤◌, ◌+◌, ◌||◌, inr, ℕ, nat_lt, Bool, true, false, List, [], ◌∷◌, ◌++◌, take, drop, length, Option, Some, None, Result, Ok, Err, refl, sym, ap, ◌∙◌, subst, append_assoc, append-nil, true≢false, arith}
+use Rattle.std.proofs.Math.Seq.{take-append_seam, drop-append_seam}
+use Rattle.std.proofs.lemmas.Bool.Decides.{nat_tests}
+use Rattle.std.proofs.lemmas.List.{length-append}
+use Rattle.std.specs.List.{list_any}
 use Rattle.std.specs.Option.{is_some}
-use Rattle.std.specs.Prelude.{OnOk, is_err}
-use Rattle.pubsub.specs.Listening.{Listening, is_listening}
+use Rattle.std.specs.Prelude.{OnOk, OnErr, IfErr, is_err}
+use Rattle.pubsub.specs.Globs.{matches}
+use Rattle.pubsub.specs.Listening.{Listening, holds, is_listening}
 use Rattle.client_commands.specs.Attendants.{Attendance, TakesCommon}
 use Rattle.client_commands.specs.declared.port_facts.Figures.{Figures}
 use Rattle.client_commands.specs.Courtesies.{ClientInfo, MonitoredMaster, is_stranger}
 use Rattle.client_commands.proofs.OwnValues.{own_is_same}
 use Rattle.client_commands.specs.Infos.{info}
 use Rattle.resp2.specs.Asked.{IsCommon}
+use Rattle.resp2.specs.Commands.{command_of}
 use Rattle.resp2.proofs.Switches.{known_too}
 use Rattle.sentinel_core.specs.declared.serving.fault.ServeFault.{ServeFault}
 use Rattle.sentinel_core.specs.declared.serving.fault.ServeFault.TheVariants.{Halted, NoMemory as OutOfMemory}
@@ -25,10 +31,15 @@ use Rattle.client_commands.proofs.LineStreams.{value_is_frame}
 use Rattle.sentinel_cell.specs.declared.view.View.{View}
 use Rattle.sentinel_cell.specs.Histories.{World}
 use Rattle.courteous_sessions.specs.Epochs.{heard_as}
-use Rattle.courteous_sessions.specs.Visits.{Guest, guest, masters_of, introduced, TellsInfo, BeginsNotes, Serves, Breaks, Receives}
-use Rattle.courteous_sessions.specs.OnTheWay.{IsIdle, IsReady, IsTuned, BeginsWith, IsOnTheWay, IsDone, Drains, Refuses, guest_of}
-use Rattle.courteous_sessions.proofs.Keeping.{common_turn, common_answers}
-use Rattle.courteous_sessions.proofs.Serving.{was_read, served_by_others, value_served, all_served, refused, cut_by, begun, was_received}
+use Rattle.courteous_sessions.specs.Visits.{Guest, guest, switches, hears_switches, is_confined, confined, masters_of, introduced, TellsInfo, BeginsNotes, Serves, ServesIn, Tells, Breaks, Receives}
+use Rattle.courteous_sessions.specs.declared.shapes.Shape.{Shape}
+use Rattle.courteous_sessions.specs.declared.shapes.Shape.TheVariants.{Plain}
+use Rattle.courteous_sessions.specs.Retelling.{shape_of, IsTold, JoinsTold}
+use Rattle.client_commands.specs.declared.protocols.Protocol.{Protocol}
+use Rattle.client_commands.specs.declared.protocols.Protocol.TheVariants.{Two, Three}
+use Rattle.courteous_sessions.specs.OnTheWay.{IsIdle, IsReady, IsTuned, RespondsIn, BeginsWith, IsOnTheWay, IsDone, Drains, Refuses, guest_of}
+use Rattle.courteous_sessions.proofs.Keeping.{common_differs, common_shape, common_turn, common_answers}
+use Rattle.courteous_sessions.proofs.Serving.{was_read, responds_alike, heard_otherwise, ready_same, served_by_others, served_unheard, value_served, all_served, refused, cut_by, begun, was_received}
 
 pub on_ok : {X E A B : Type 0} (answer : Result X E) → (A → B) → OnOk answer A → OnOk answer B
 on_ok (Ok x) f h = f h
@@ -64,7 +75,7 @@ still_ready view before after l talk ready given asker =
     record {
       reads = still_reads before.held after.held ready.reads (reads_none view before.held after.held ready.reads given);
       idle = ready.idle;
-      listens = ap (λ (a : ClientInfo). a.listens) asker ∙ ready.listens;
+      listens = ap (λ (a : ClientInfo). a.listens) asker ∙ (ready.listens ∙ ap (λ (a : ClientInfo). is_confined a.protocol l) (sym asker));
       hears = ready.hears;
     }
 
@@ -76,7 +87,7 @@ ready_to_answer view value before after l talk ready given asker =
     record {
       reads = now_reads at.0 after.held at.2;
       idle = ready.idle;
-      listens = ap (λ (a : ClientInfo). a.listens) asker ∙ ready.listens;
+      listens = ap (λ (a : ClientInfo). a.listens) asker ∙ (ready.listens ∙ ap (λ (a : ClientInfo). is_confined a.protocol l) (sym asker));
       hears = ready.hears;
     }
 
@@ -95,39 +106,206 @@ idle_again asked left is none goes_on =
       goes_on = ap (λ (t : Talk). t.ended) is ∙ goes_on;
     }
 
+-- what was put out before an answer, and the answer itself
+pub front_again : (n : ℕ) (unsent answered more : List ℕ) → n ≡ length unsent → answered ≡ unsent ++ more → take n answered ≡ unsent
+front_again n unsent answered more size is =
+    ap (λ (m : ℕ). take m answered) size ∙ ap (λ (t : List ℕ). take (length unsent) t) is ∙ take-append_seam unsent more
+
+pub back_again : (n : ℕ) (unsent answered more : List ℕ) → n ≡ length unsent → answered ≡ unsent ++ more → drop n answered ≡ more
+back_again n unsent answered more size is =
+    ap (λ (m : ℕ). drop m answered) size ∙ ap (λ (t : List ℕ). drop (length unsent) t) is ∙ drop-append_seam unsent more
+
+pub is_behind : (n : ℕ) (unsent answered more : List ℕ) → n ≡ length unsent → answered ≡ unsent ++ more → n ≤ length answered
+is_behind n unsent answered more size is = omega (arith, size, ap length is, length-append unsent more)
+
+-- an answer that couldn't be told is gone
+pub none_told_of : {X : Type 0} (answer : Result X ServeFault) (n : ℕ) (unsent answered more given : List ℕ) → n ≡ length unsent → answered ≡ unsent ++ more
+    → OnErr answer (given ≡ take n answered) → IfErr answer (λ fault. fault ≡ OutOfMemory)
+    → IfErr answer (λ fault. ((fault ≡ Halted) ⊎ (fault ≡ OutOfMemory)) × (given ≡ unsent))
+none_told_of (Ok x) n unsent answered more given size is left fault = tt
+none_told_of (Err f) n unsent answered more given size is left fault = (inr fault, left ∙ front_again n unsent answered more size is)
+
+pub none_told_alone : {X : Type 0} (answer : Result X ServeFault) (n : ℕ) (unsent answered more given : List ℕ) → n ≡ length unsent → answered ≡ unsent ++ more
+    → OnErr answer (given ≡ take n answered) → OnErr answer (given ≡ unsent)
+none_told_alone (Ok x) n unsent answered more given size is left = tt
+none_told_alone (Err f) n unsent answered more given size is left = left ∙ front_again n unsent answered more size is
+
+-- who listens to nothing has a session below that listens to no notes
+no_sum : (n m : ℕ) → nat_lt 0 (n + m) ≡ false → (n ≡ 0) × (m ≡ 0)
+no_sum n m h = (grind (arith, nat_tests, h), grind (arith, nat_tests, h))
+
+no_items : (xs : List (List ℕ)) → length xs ≡ 0 → xs ≡ []
+no_items [] h = refl
+no_items (x ∷ xs) h = absurd (let no : ⊥ = omega (arith, h) in no)
+
+hears_none : (channels patterns : List (List ℕ)) → channels ≡ [] → patterns ≡ []
+    → (holds channels switches || list_any (λ pattern. matches pattern switches) patterns) ≡ false
+hears_none channels patterns a b =
+    ap (λ (x : List (List ℕ)). holds x switches || list_any (λ pattern. matches pattern switches) patterns) a
+    ∙ ap (λ (x : List (List ℕ)). holds [] switches || list_any (λ pattern. matches pattern switches) x) b
+
+none_below : (l : Listening) (talk : Talk) → is_some talk.listens ≡ hears_switches l → is_listening l ≡ false → talk.listens ≡ None
+none_below l talk hears quiet =
+    let none = no_sum (length l.channels) (length l.patterns) quiet in
+    no_entry talk.listens (hears ∙ hears_none l.channels l.patterns (no_items l.channels none.0) (no_items l.patterns none.1))
+  where
+    no_entry : (since : Option ℕ) → is_some since ≡ false → since ≡ None
+    no_entry None h = refl
+    no_entry (Some entry) h = absurd (true≢false h)
+
+otherwise : (command : Command) → command ≢ Subscribe → ◌≢◌ {A = Result Command CommandFault} (Ok command) (Ok Subscribe)
+otherwise command differs e = differs (let same : command ≡ Subscribe = cc in same)
+
 module _ (start : World) (now : ℕ) where
+  -- protocol 2 tells an answer as it is
+  pub told_in_two : (g h : Guest) (value : Frame) (bytes : List ℕ) → g.asker.protocol ≡ Two → h.asker.protocol ≡ Two → Serves start now g value bytes h
+      → Tells start now g value bytes h
+  told_in_two g h value bytes before after s = (
+    bytes,
+    subst (λ (p : Protocol). ServesIn start now p g value bytes h) (sym before) s,
+    subst (λ (p : Protocol). IsTold p (shape_of value) bytes bytes) (sym after) refl,
+  )
+
+  -- what protocol 3 tells
+  pub told_in_three : (g h : Guest) (value : Frame) (answer bytes : List ℕ) → h.asker.protocol ≡ Three → ServesIn start now g.asker.protocol g value answer h
+      → IsTold Three (shape_of value) answer bytes → Tells start now g value bytes h
+  told_in_three g h value answer bytes after s told = (answer, s, subst (λ (p : Protocol). IsTold p (shape_of value) answer bytes) (sym after) told)
+
+  -- a value was answered, which protocol 2 tells as it is
+  pub tells_in_two : (g : Guest) (after : Attendance) (l : Listening) (talk : Talk) (w : View) (value : Frame) (unsent given : List ℕ) → after.asker.protocol ≡ Two
+      → (more : List ℕ) × (given ≡ unsent ++ more) × IsReady after l talk × ServesIn start now g.asker.protocol g value more (guest_of after l talk w)
+      → (more : List ℕ) × (given ≡ unsent ++ more) × IsReady after l talk × Tells start now g value more (guest_of after l talk w)
+  tells_in_two g after l talk w value unsent given speaks got =
+      (got.0, got.1, got.2, (got.0, got.3, subst (λ (p : Protocol). IsTold p (shape_of value) got.0 got.0) (sym speaks) refl))
+
+  -- or protocol 3 tells it in its own way
+  pub tells_in_three : (g : Guest) (mid after : Attendance) (mid_l l : Listening) (mid_talk talk : Talk) (w : View) (value : Frame) (unsent answered given : List ℕ) (n : ℕ)
+      → n ≡ length unsent → mid.asker.protocol ≡ Three → after ≡ mid → l ≡ mid_l → talk ≡ mid_talk
+      → (more : List ℕ) × (answered ≡ unsent ++ more) × IsReady mid mid_l mid_talk × ServesIn start now g.asker.protocol g value more (guest_of mid mid_l mid_talk w)
+      → JoinsTold Three (shape_of value) (drop n answered) (take n answered) given
+      → (more : List ℕ) × (given ≡ unsent ++ more) × IsReady after l talk × Tells start now g value more (guest_of after l talk w)
+  tells_in_three g mid after mid_l l mid_talk talk w value unsent answered given n size speaks a b c got told =
+      let front = front_again n unsent answered got.0 size got.1 in
+      let back = back_again n unsent answered got.0 size got.1 in
+      let is_told : IsTold Three (shape_of value) got.0 told.0 = subst (λ (t : List ℕ). IsTold Three (shape_of value) t told.0) back told.2 in
+      let tells : Tells start now g value told.0 (guest_of mid mid_l mid_talk w) = told_in_three g (guest_of mid mid_l mid_talk w) value got.0 told.0 speaks got.3 is_told in (
+        told.0,
+        told.1 ∙ ap (λ (t : List ℕ). t ++ told.0) front,
+        ready_same mid after mid_l l mid_talk talk got.2 a b c,
+        subst (λ (x : Attendance). Tells start now g value told.0 (guest_of x l talk w)) (sym a)
+            (subst (λ (x : Listening). Tells start now g value told.0 (guest_of mid x talk w)) (sym b)
+            (subst (λ (x : Talk). Tells start now g value told.0 (guest_of mid mid_l x w)) (sym c) tells)),
+      )
+
+  -- the session below answered a command, which protocol 2 tells as it is
+  pub responds_in_two : (protocol : Protocol) (p : Party) (asked : Result Command CommandFault) (q : Party) (talk : Talk) (unsent given : List ℕ) → protocol ≡ Two
+      → (more : List ℕ) × (given ≡ unsent ++ more) × IsIdle talk × Responds start now p asked more q
+      → (more : List ℕ) × (given ≡ unsent ++ more) × IsIdle talk × RespondsIn start now protocol p asked more q
+  responds_in_two protocol p asked q talk unsent given speaks got = (
+    got.0,
+    got.1,
+    got.2,
+    record { answer = got.0; responds = got.3; told = subst (λ (s : Protocol). IsTold s Plain got.0 got.0) (sym speaks) refl },
+  )
+
+  -- or protocol 3 tells it in its own way
+  pub responds_in_three : (protocol : Protocol) (p : Party) (asked : Result Command CommandFault) (mid talk : Talk) (w : View) (unsent answered given : List ℕ) (n : ℕ)
+      → n ≡ length unsent → protocol ≡ Three → talk ≡ mid
+      → (more : List ℕ) × (answered ≡ unsent ++ more) × IsIdle mid × Responds start now p asked more (party w mid.listens)
+      → JoinsTold Three Plain (drop n answered) (take n answered) given
+      → (more : List ℕ) × (given ≡ unsent ++ more) × IsIdle talk × RespondsIn start now protocol p asked more (party w talk.listens)
+  responds_in_three protocol p asked mid talk w unsent answered given n size speaks same got told =
+      let front = front_again n unsent answered got.0 size got.1 in
+      let back = back_again n unsent answered got.0 size got.1 in
+      let is_told : IsTold Three Plain got.0 told.0 = subst (λ (t : List ℕ). IsTold Three Plain t told.0) back told.2 in (
+        told.0,
+        told.1 ∙ ap (λ (t : List ℕ). t ++ told.0) front,
+        subst IsIdle (sym same) got.2,
+        record {
+          answer = got.0;
+          responds = subst (λ (t : Talk). Responds start now p asked got.0 (party w t.listens)) (sym same) got.3;
+          told = subst (λ (s : Protocol). IsTold s Plain got.0 told.0) (sym speaks) is_told;
+        },
+      )
+
   -- a value was answered
   pub step_answered : {V : Type 0} (view : V → Frame) (value : V) (stream first bytes : List ℕ) (g : Guest) (before between after : Attendance) (l later_l : Listening)
       (unsent left : List ℕ) (talk later : Talk) (v w : View) → unsent ≡ first ++ bytes → IsOnTheWay start now stream g before.held bytes (guest_of before l talk v)
       → IsReady before l talk → Reads view before.held (Ok (Some value)) between.held → between.asker ≡ before.asker → after.held ≡ between.held
       → (more : List ℕ) × (left ≡ unsent ++ more) × IsReady after later_l later
-      × Serves start now (guest_of between l talk v) (view value) more (guest_of after later_l later w)
+      × Tells start now (guest_of between l talk v) (view value) more (guest_of after later_l later w)
       → (more : List ℕ) × (left ≡ first ++ more) × IsOnTheWay start now stream g after.held more (guest_of after later_l later w)
   step_answered view value stream first bytes g before between after l later_l unsent left talk later v w is a ready given asker held got =
       let at = was_read view before.held value between.held ready.reads given in
       let same : guest_of between l talk v ≡ guest_of before l talk v = ap (λ (x : ClientInfo). guest (party v talk.listens) l talk.told x) asker in
-      let serves = subst (λ (x : Guest). Serves start now x (view value) got.0 (guest_of after later_l later w)) same got.3 in (
+      let serves = subst (λ (x : Guest). Tells start now x (view value) got.0 (guest_of after later_l later w)) same got.3 in (
         bytes ++ got.0,
         got.1 ∙ ap (λ (t : List ℕ). t ++ got.0) is ∙ append_assoc first bytes got.0,
         value_served start now stream g before.held bytes (guest_of before l talk v) (view value) at.0 after.held got.0 (guest_of after later_l later w) a at.1 (held ∙ at.2)
             serves,
       )
 
-  -- a command that comes nearly always was answered by the session below
+  -- a command that comes nearly always was answered by the session below: at protocol 2
+  common_in_two : (command : Command) (before after : Attendance) (l : Listening) (talk later : Talk) (v w : View) (value : Frame) (more : List ℕ) → IsReady before l talk
+      → IsCommon command → is_stranger before.asker ≡ false → is_listening l ≡ false → before.asker.protocol ≡ Two → command_of value ≡ Ok command
+      → after.asker ≡ before.asker → later.told ≡ talk.told
+      → RespondsIn start now Two (party v talk.listens) (heard_as before.asker.current (Ok command)) more (party w later.listens)
+      → Tells start now (guest_of before l talk v) value more (guest_of after l later w)
+  common_in_two command before after l talk later v w value more ready common known quiet speaks is asker told got =
+      let answer = got.answer in
+      let none = common_turn Two before.asker l value command common speaks known quiet is in
+      let answers = common_answers start now before.asker value command (party v talk.listens) answer (party w later.listens) common known is got.responds in
+      let confines = ap (confined l) (asker ∙ sym (own_is_same before.asker value command (known_too value command is))) in
+      let serves = served_by_others start now before after l talk later v w value answer ready none confines told answers in
+      let speaks_on : after.asker.protocol ≡ Two = ap (λ (x : ClientInfo). x.protocol) asker ∙ speaks in
+      let tells = told_in_two (guest_of before l talk v) (guest_of after l later w) value answer speaks speaks_on serves in
+      subst (λ (t : List ℕ). Tells start now (guest_of before l talk v) value t (guest_of after l later w)) (sym got.told) tells
+
+  -- and at protocol 3, where a session below that listens to no notes is as one beside it
+  common_in_three : (command : Command) (before after : Attendance) (l : Listening) (talk later : Talk) (v w : View) (value : Frame) (more : List ℕ) → IsReady before l talk
+      → IsCommon command → is_stranger before.asker ≡ false → is_listening l ≡ false → before.asker.protocol ≡ Three → command_of value ≡ Ok command
+      → after.asker ≡ before.asker → later.told ≡ talk.told
+      → RespondsIn start now Three (party v talk.listens) (heard_as before.asker.current (Ok command)) more (party w later.listens)
+      → Tells start now (guest_of before l talk v) value more (guest_of after l later w)
+  common_in_three command before after l talk later v w value more ready common known quiet speaks is asker told got =
+      let answer = got.answer in
+      let heard = heard_as before.asker.current (Ok command) in
+      let other_command = heard_otherwise start now before.asker.current (Ok command) (otherwise command (common_differs command common)) in
+      let since = responds_alike start now (party v talk.listens) heard answer (party w later.listens) other_command got.responds in
+      let unheard : talk.listens ≡ None = none_below l talk ready.hears quiet in
+      let beside = subst (λ (x : Option ℕ). Responds start now (party v x) heard answer (party w later.listens)) unheard got.responds in
+      let none = common_turn Three before.asker l value command common speaks known quiet is in
+      let answers = common_answers start now before.asker value command (party v None) answer (party w later.listens) common known is beside in
+      let confines = ap (confined l) (asker ∙ sym (own_is_same before.asker value command (known_too value command is))) in
+      let serves = served_unheard start now before after l talk later v w value answer later.listens ready none confines told since answers in
+      let speaks_on : after.asker.protocol ≡ Three = ap (λ (x : ClientInfo). x.protocol) asker ∙ speaks in
+      let g = guest_of before l talk v in
+      let h = guest_of after l later w in
+      told_in_three g h value answer more speaks_on (subst (λ (p : Protocol). ServesIn start now p g value answer h) (sym speaks) serves)
+      (subst (λ (s : Shape). IsTold Three s answer more) (sym (common_shape value command common is)) got.told)
+
+  common_tells : (protocol : Protocol) (command : Command) (before after : Attendance) (l : Listening) (talk later : Talk) (v w : View) (value : Frame) (more : List ℕ)
+      → IsReady before l talk → IsCommon command → is_stranger before.asker ≡ false → is_listening l ≡ false → before.asker.protocol ≡ protocol
+      → command_of value ≡ Ok command → after.asker ≡ before.asker → later.told ≡ talk.told
+      → RespondsIn start now protocol (party v talk.listens) (heard_as before.asker.current (Ok command)) more (party w later.listens)
+      → Tells start now (guest_of before l talk v) value more (guest_of after l later w)
+  common_tells Two command before after l talk later v w value more ready common known quiet speaks is asker told got =
+      common_in_two command before after l talk later v w value more ready common known quiet speaks is asker told got
+  common_tells Three command before after l talk later v w value more ready common known quiet speaks is asker told got =
+      common_in_three command before after l talk later v w value more ready common known quiet speaks is asker told got
+
   pub step_common : (command : Command) (stream first bytes : List ℕ) (g : Guest) (before after : Attendance) (l later_l : Listening) (unsent left : List ℕ) (talk later : Talk)
       (v w : View) → unsent ≡ first ++ bytes → IsOnTheWay start now stream g before.held bytes (guest_of before l talk v) → IsReady before l talk
-      → TakesCommon before.held after.held command → IsCommon command → (is_stranger before.asker ≡ false) × (is_listening l ≡ false) → after.asker ≡ before.asker → later_l ≡ l
+      → TakesCommon before.held after.held command → IsCommon command → (is_stranger before.asker ≡ false) × (is_listening l ≡ false)
+      → after.asker ≡ before.asker → later_l ≡ l
       → later.told ≡ talk.told
       → (more : List ℕ) × (left ≡ unsent ++ more) × IsIdle later
-      × Responds start now (party v talk.listens) (heard_as before.asker.current (Ok command)) more (party w later.listens)
+      × RespondsIn start now before.asker.protocol (party v talk.listens) (heard_as before.asker.current (Ok command)) more (party w later.listens)
       → (more : List ℕ) × (left ≡ first ++ more) × IsOnTheWay start now stream g after.held more (guest_of after later_l later w)
   step_common command stream first bytes g before after l later_l unsent left talk later v w is a ready taken common plain asker same told got =
       let value = taken.value in
-      let none = common_turn before.asker l value command common plain.0 plain.1 taken.asked in
-      let answers = common_answers start now before.asker value command (party v talk.listens) got.0 (party w later.listens) common plain.0 taken.asked got.3 in
-      let known = asker ∙ sym (own_is_same before.asker value command (known_too value command taken.asked)) in
-      let serves = served_by_others start now before after l talk later v w value got.0 ready none known told answers in
-      let there = subst (λ (x : Listening). Serves start now (guest_of before l talk v) value got.0 (guest_of after x later w)) (sym same) serves in
+      let tells = common_tells before.asker.protocol command before after l talk later v w value got.0 ready common plain.0 plain.1 refl taken.asked asker told got.3 in
+      let there = subst (λ (x : Listening). Tells start now (guest_of before l talk v) value got.0 (guest_of after x later w)) (sym same) tells in
       let found = ap value_at (ap bytes_in taken.held_is) ∙ taken.found in (
         bytes ++ got.0,
         got.1 ∙ ap (λ (t : List ℕ). t ++ got.0) is ∙ append_assoc first bytes got.0,

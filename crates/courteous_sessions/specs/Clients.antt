@@ -6,6 +6,8 @@ use Rattle.ballot_law.specs.Rosters.{Roster}
 use Rattle.pubsub.specs.declared.channel.Event.{Event}
 use Rattle.pubsub.specs.Listening.{Listening, is_listening}
 use Rattle.client_commands.specs.Ports.{PortFacts, no_port}
+use Rattle.client_commands.specs.declared.protocols.Protocol.{Protocol}
+use Rattle.client_commands.specs.declared.protocols.Protocol.TheVariants.{Two}
 use Rattle.client_commands.specs.Courtesies.{ClientInfo, is_stranger}
 use Rattle.sentinel_core.specs.declared.serving.fault.ServeFault.{ServeFault}
 use Rattle.port_sessions.specs.Notes.{none_told, is_due, Notifies}
@@ -15,6 +17,8 @@ use Rattle.resp2.specs.Framing.Frame.{spellings}
 use Rattle.sentinel_cell.specs.declared.view.View.{View}
 use Rattle.sentinel_cell.specs.Histories.{World}
 use Rattle.courteous_sessions.specs.Events.{told_of, event_told, is_any}
+use Rattle.courteous_sessions.specs.Retelling.{IsTold}
+use Rattle.courteous_sessions.specs.declared.shapes.Shape.TheVariants.{Pushes}
 use Rattle.courteous_sessions.specs.Visits.{unsubscribed, Visit, Guest, introduced, guest, Receives}
 use Rattle.courteous_sessions.specs.declared.client_session.ClientSession.{ClientSession}
 use Rattle.courteous_sessions.specs.declared.client_session.ClientSession.TheVariants.{Plain, Courteous}
@@ -22,7 +26,7 @@ use Rattle.courteous_sessions.specs.declared.client_session.ClientSession.TheVar
 -- what is known of a connection at its beginning
 abbrev pub newcomer : (id : ℕ) → ClientInfo
 newcomer id =
-    record { id = id; name = []; listens = false; masters = []; password = None; admitted = false; current = None; port = no_port }
+    record { id = id; name = []; protocol = Two; listens = false; masters = []; password = None; admitted = false; current = None; port = no_port }
 
 -- a session with courtesies to which no bytes came
 abbrev pub arrived : (id : ℕ) → Visit
@@ -62,6 +66,11 @@ knowing_port (Courteous visit) port = Courteous (knowing_of visit port)
 abbrev pub port_before : ClientSession → PortFacts → PortFacts
 port_before (Plain talk) port = port
 port_before (Courteous visit) port = visit.asker.port
+
+-- which protocol it speaks
+abbrev pub protocol_of : ClientSession → Protocol
+protocol_of (Plain talk) = Two
+protocol_of (Courteous visit) = visit.asker.protocol
 
 -- the name that its client gave the connection
 abbrev pub name_of : ClientSession → List ℕ
@@ -143,14 +152,16 @@ module _ (start : World) (now : ℕ) (piece : List ℕ) (result : Result Unit Se
 abbrev pub talk_of : Visit → Talk
 talk_of visit = record { held = []; unsent = []; ended = None; listens = visit.listens; told = visit.told }
 
-abbrev pub notified : Roster → Note → Visit → Visit
-notified roster note visit =
-    record visit { unsent = visit.unsent ++ spellings (told_of roster note visit.listening); told = slice_set visit.told note.master (Some note.card.epoch) }
+-- `bytes` is what it is told of the note
+abbrev pub notified : Note → (bytes : List ℕ) → Visit → Visit
+notified note bytes visit = record visit { unsent = visit.unsent ++ bytes; told = slice_set visit.told note.master (Some note.card.epoch) }
 
 -- What became of a note: what the connection is told of it, on its channel and for its patterns, joins what is unsent, and it is remembered as told; or it isn't due;
 -- or it is due and memory for it was refused: then it may count as told, and nothing else changed
 abbrev pub NotifiesVisit : {E : Type 0} → Roster → Note → (entry : ℕ) → Visit → Result Bool E → Visit → Type 0
-NotifiesVisit roster note entry visit (Ok true) after = (is_due (talk_of visit) note entry ≡ true) × (after ≡ notified roster note visit)
+NotifiesVisit roster note entry visit (Ok true) after =
+    (is_due (talk_of visit) note entry ≡ true)
+    × (bytes : List ℕ) × IsTold visit.asker.protocol Pushes (spellings (told_of roster note visit.listening)) bytes × (after ≡ notified note bytes visit)
 NotifiesVisit roster note entry visit (Ok false) after = (is_due (talk_of visit) note entry ≡ false) × (after ≡ visit)
 NotifiesVisit roster note entry visit (Err refused) after =
     (is_due (talk_of visit) note entry ≡ true) × (after ≡ (let v : Visit = record visit { told = after.told } in v))
@@ -167,7 +178,8 @@ NotifiesClient roster note entry (Courteous visit) result (Courteous after) = No
 abbrev pub TellsVisit : {E : Type 0} → Event → Visit → Result Bool E → Visit → Type 0
 TellsVisit event visit (Ok any) after =
     (any ≡ is_any (spellings (event_told event visit.listening)))
-    × (after ≡ (let v : Visit = record visit { unsent = visit.unsent ++ spellings (event_told event visit.listening) } in v))
+    × (bytes : List ℕ) × IsTold visit.asker.protocol Pushes (spellings (event_told event visit.listening)) bytes
+    × (after ≡ (let v : Visit = record visit { unsent = visit.unsent ++ bytes } in v))
 TellsVisit event visit (Err refused) after = after ≡ visit
 
 -- a session without courtesies is told none

@@ -1,17 +1,21 @@
 -- What is true within a call that takes a piece.
 use Rattle.std.specs.Prelude.{◌≡◌, ◌≢◌, ◌⊎◌, ℕ, Bool, true, false, Option, None, Some, List, [], ◌++◌, Result, Ok, Err, slice_set}
 use Rattle.std.specs.Option.{is_some}
+use Rattle.ballot_law.specs.declared.commands.Command.{Command}
 use Rattle.ballot_law.specs.declared.messages.Note.{Note}
 use Rattle.ballot_law.specs.Rosters.{Roster}
 use Rattle.pubsub.specs.declared.channel.Event.{Event}
-use Rattle.pubsub.specs.Listening.{Listening, is_listening}
+use Rattle.pubsub.specs.Listening.{Listening}
 use Rattle.client_commands.specs.Attendants.{Attendance}
+use Rattle.client_commands.specs.declared.protocols.Protocol.{Protocol}
+use Rattle.client_commands.specs.Courtesies.{ClientInfo, Answer}
 use Rattle.client_commands.specs.Lines.{Reads}
 use Rattle.sentinel_core.specs.declared.serving.fault.ServeFault.{ServeFault}
 use Rattle.sentinel_core.specs.declared.serving.fault.ServeFault.TheVariants.{Frame as FaultyFrame, NoMemory as OutOfMemory}
 use Rattle.sentinel_core.specs.Serving.Serving.{last_line}
 use Rattle.port_sessions.specs.Notes.{is_due}
-use Rattle.port_sessions.specs.Talks.{Talk, party}
+use Rattle.port_sessions.specs.Talks.{Talk, Party, party, Responds}
+use Rattle.resp2.specs.declared.command.CommandFault.{CommandFault}
 use Rattle.resp2.specs.declared.framing.fault.FrameFault.{FrameFault}
 use Rattle.resp2.specs.declared.framing.fault.FrameFault.TheVariants.{NoMemory}
 use Rattle.resp2.specs.Framing.Frame.{Frame, spellings}
@@ -20,7 +24,9 @@ use Rattle.resp2.specs.Framing.Stream.{Held, reading, bytes_in}
 use Rattle.sentinel_cell.specs.declared.view.View.{View}
 use Rattle.sentinel_cell.specs.Histories.{World}
 use Rattle.courteous_sessions.specs.Events.{told_of, event_told, is_any}
-use Rattle.courteous_sessions.specs.Visits.{Guest, guest, unsubscribed, hears_switches, told_after, Tunes, ServesAll, IsAnswered, Breaks}
+use Rattle.courteous_sessions.specs.Retelling.{IsTold, JoinsTold}
+use Rattle.courteous_sessions.specs.declared.shapes.Shape.TheVariants.{Plain, Pushes}
+use Rattle.courteous_sessions.specs.Visits.{Guest, guest, is_confined, unsubscribed, hears_switches, told_after, Answers, Tunes, ServesAll, IsAnswered, Breaks}
 
 -- a session that holds nothing and goes on
 pub record IsIdle (talk : Talk) : Type 0 where
@@ -29,11 +35,11 @@ pub record IsIdle (talk : Talk) : Type 0 where
   pub goes_on : talk.ended ≡ None
 
 -- between two values the session below holds nothing and goes on, it listens to notes where the connection hears of new addresses and nowhere else, and it is known
--- whether the connection listens
+-- whether the connection has no commands but those of Pub/Sub
 pub record IsReady (attended : Attendance) (listening : Listening) (talk : Talk) : Type 0 where
   pub reads : attended.held ≡ reading (bytes_in attended.held)
   pub idle : IsIdle talk
-  pub listens : attended.asker.listens ≡ is_listening listening
+  pub listens : attended.asker.listens ≡ is_confined attended.asker.protocol listening
   pub hears : is_some talk.listens ≡ hears_switches listening
 
 -- a session that ended listens to nothing
@@ -57,18 +63,19 @@ pub record BeginsWith (bytes : List ℕ) (value : Frame) : Type 0 where
 
 -- What became of a note: the session below was told of it, its own text was dropped, and what the connection is told of it joined what isn't sent yet; or it isn't
 -- due; or memory for it was refused
-abbrev pub NotifiesBelow : {E : Type 0} → Roster → Note → (entry : ℕ) → Listening → Talk → (unsent : List ℕ) → Result Bool E → Talk → (unsent : List ℕ) → Type 0
-NotifiesBelow roster note entry l talk unsent (Ok true) after more =
+abbrev pub NotifiesBelow : {E : Type 0} → Roster → Note → (entry : ℕ) → Protocol → Listening → Talk → (unsent : List ℕ) → Result Bool E → Talk → (unsent : List ℕ) → Type 0
+NotifiesBelow roster note entry protocol l talk unsent (Ok true) after more =
     (is_due talk note entry ≡ true) × (after.listens ≡ talk.listens) × (after.told ≡ slice_set talk.told note.master (Some note.card.epoch))
-    × (more ≡ unsent ++ spellings (told_of roster note l))
-NotifiesBelow roster note entry l talk unsent (Ok false) after more = (is_due talk note entry ≡ false) × (after ≡ talk) × (more ≡ unsent)
-NotifiesBelow roster note entry l talk unsent (Err refused) after more =
+    × JoinsTold protocol Pushes (spellings (told_of roster note l)) unsent more
+NotifiesBelow roster note entry protocol l talk unsent (Ok false) after more = (is_due talk note entry ≡ false) × (after ≡ talk) × (more ≡ unsent)
+NotifiesBelow roster note entry protocol l talk unsent (Err refused) after more =
     (is_due talk note entry ≡ true) × (after.listens ≡ talk.listens) × (more ≡ unsent)
 
 -- what became of an event: whether anything is told of it, which joined what isn't sent yet; or memory for it was refused
-abbrev pub TellsBelow : {E : Type 0} → Event → Listening → (unsent : List ℕ) → Result Bool E → (unsent : List ℕ) → Type 0
-TellsBelow event l unsent (Ok any) more = (any ≡ is_any (spellings (event_told event l))) × (more ≡ unsent ++ spellings (event_told event l))
-TellsBelow event l unsent (Err refused) more = more ≡ unsent
+abbrev pub TellsBelow : {E : Type 0} → Event → Protocol → Listening → (unsent : List ℕ) → Result Bool E → (unsent : List ℕ) → Type 0
+TellsBelow event protocol l unsent (Ok any) more =
+    (any ≡ is_any (spellings (event_told event l))) × JoinsTold protocol Pushes (spellings (event_told event l)) unsent more
+TellsBelow event protocol l unsent (Err refused) more = more ≡ unsent
 
 -- the fault that ends a session at a frame's fault, and what is put out for it
 abbrev pub Refuses : FrameFault → (line : List ℕ) → ServeFault → Type 0
@@ -81,6 +88,19 @@ module _ (start : World) (now : ℕ) where
     pub listens : is_some after.listens ≡ hears
     pub tunes : Tunes start now hears (party v talk.listens) (party w after.listens)
     pub told : after.told ≡ told_after hears talk.told
+
+  -- a value was answered by a session beside the one below: what joined what isn't sent yet
+  pub record AnswersBeside (asker : ClientInfo) (becomes : Answer) (v : View) (value : Frame) (unsent left : List ℕ) (w : View) : Type 0 where
+    pub answer : List ℕ
+    pub listens : Option ℕ
+    pub left_is : left ≡ unsent ++ answer
+    pub answers : Answers start now asker becomes (party v None) value answer (party w listens)
+
+  -- the session below answered a command, and its answer was told as the protocol tells one that is told as it is
+  pub record RespondsIn (protocol : Protocol) (p : Party) (asked : Result Command CommandFault) (bytes : List ℕ) (q : Party) : Type 0 where
+    pub answer : List ℕ
+    pub responds : Responds start now p asked answer q
+    pub told : IsTold protocol Plain answer bytes
 
   -- these values of the stream were answered, and the bytes after them are held
   pub record IsOnTheWay (stream : List ℕ) (g : Guest) (held : Held) (bytes : List ℕ) (h : Guest) : Type 0 where

@@ -7,6 +7,8 @@ use Rattle.pubsub.specs.Answering.{Answer as ChannelAnswer, other, said as confi
 use Rattle.pubsub.specs.Listening.{Listening, is_listening}
 use Rattle.pubsub.specs.Telling.{channel_name, hears}
 use Rattle.client_commands.specs.declared.port_facts.Figures.{Figures}
+use Rattle.client_commands.specs.declared.protocols.Protocol.{Protocol}
+use Rattle.client_commands.specs.declared.protocols.Protocol.TheVariants.{Two, Three}
 use Rattle.client_commands.specs.Courtesies.{ClientInfo, MonitoredMaster, Answer, left, said, asks_masters, silent, courtesy, asker_after, is_stranger}
 use Rattle.client_commands.specs.Infos.{info}
 use Rattle.client_commands.specs.Lines.{Reads, Holds}
@@ -23,6 +25,7 @@ use Rattle.resp2.specs.Framing.Stream.{reading, ended}
 use Rattle.sentinel_cell.specs.Histories.{World}
 use Rattle.sentinel_rules.specs.Plans.{roster_of}
 use Rattle.courteous_sessions.specs.Epochs.{heard_as}
+use Rattle.courteous_sessions.specs.Retelling.{first_word, is_subscribing, shape_of, IsTold}
 
 -- What a session with courtesies has: what is known of its connection, and whether the names of the Sentinel's masters are among that; the bytes that came and are no
 -- whole value yet, the answers, notes and events that aren't sent yet, and the fault that ended it; to which channels and patterns it listens. Where it hears of new
@@ -58,8 +61,16 @@ pub record Guest : Type 0 where
   pub listening : Listening
   pub told : List (Option ℕ)
 
+-- at protocol 2 who listens has no commands but those of Pub/Sub and PING; at protocol 3 he has all, as what he hears comes as pushes
+abbrev pub is_confined : Protocol → Listening → Bool
+is_confined Two l = is_listening l
+is_confined Three l = false
+
+abbrev pub confined : Listening → ClientInfo → ClientInfo
+confined l asker = record asker { listens = is_confined asker.protocol l }
+
 abbrev pub guest : Party → Listening → (told : List (Option ℕ)) → ClientInfo → Guest
-guest p l told asker = record { party = p; asker = record asker { listens = is_listening l }; listening = l; told = told }
+guest p l told asker = record { party = p; asker = confined l asker; listening = l; told = told }
 
 -- ---- Pub/Sub
 
@@ -75,9 +86,14 @@ switches = channel_name SwitchMaster
 abbrev pub hears_switches : Listening → Bool
 hears_switches l = hears l switches
 
+-- at protocol 3 it answers those commands alone that change to what a connection listens
+abbrev pub turn_in : Protocol → Listening → Frame → ChannelAnswer
+turn_in Two l value = channel_answer value l
+turn_in Three l value = elim (is_subscribing (first_word value)) [ true ↦ channel_answer value l | false ↦ other ]
+
 -- what Pub/Sub makes of a value; it answers none of a client that is still to give its password
 abbrev pub channel_turn : ClientInfo → Listening → Frame → ChannelAnswer
-channel_turn asker l value = elim (is_stranger asker) [ true ↦ other | false ↦ channel_answer value l ]
+channel_turn asker l value = elim (is_stranger asker) [ true ↦ other | false ↦ turn_in asker.protocol l value ]
 
 -- who hears of new addresses no more is told from the beginning when it does again
 abbrev pub told_after : (hears : Bool) → (told : List (Option ℕ)) → List (Option ℕ)
@@ -120,15 +136,33 @@ module _ (start : World) (now : ℕ) where
   ServesBy (confirmed answers after) g value bytes h =
       (q : Party) × Tunes (hears_switches after) g.party q × (bytes ≡ spellings answers) × (h ≡ guest q after (told_after (hears_switches after) g.told) g.asker)
 
-  -- the answer to a value, of no bytes where it has none, and what the next one rests on
+  -- the answer of protocol 2 to a value, of no bytes where it has none, and what the next one rests on
   abbrev pub Serves : Guest → Frame → List ℕ → Guest → Type 0
   Serves g value bytes h = ServesBy (channel_turn g.asker g.listening value) g value bytes h
+
+  -- The same at protocol 3, before it is told as that has it: one who listens is answered as one who doesn't, and goes on listening
+  abbrev pub ServesBesideBy : ChannelAnswer → Guest → Frame → List ℕ → Guest → Type 0
+  ServesBesideBy other g value bytes h =
+      (q : Party) × Answers g.asker (courtesy g.asker value) (party g.party.view None) value bytes q
+      × (h ≡ guest (party q.view g.party.listens) g.listening g.told (asker_after g.asker value))
+  ServesBesideBy (confirmed answers after) g value bytes h = ServesBy (confirmed answers after) g value bytes h
+
+  abbrev pub ServesBeside : Guest → Frame → List ℕ → Guest → Type 0
+  ServesBeside g value bytes h = ServesBesideBy (channel_turn g.asker g.listening value) g value bytes h
+
+  abbrev pub ServesIn : Protocol → Guest → Frame → List ℕ → Guest → Type 0
+  ServesIn Two g value bytes h = Serves g value bytes h
+  ServesIn Three g value bytes h = ServesBeside g value bytes h
+
+  -- The answer to a value, as the protocol tells it that the connection speaks then: that of HELLO is told in the protocol for which it asks
+  abbrev pub Tells : Guest → Frame → List ℕ → Guest → Type 0
+  Tells g value bytes h = (answer : List ℕ) × ServesIn g.asker.protocol g value answer h × IsTold h.asker.protocol (shape_of value) answer bytes
 
   -- the answers to these values, in their order, one after the other
   abbrev pub ServesAll : Guest → List Frame → List ℕ → Guest → Type 0
   ServesAll g [] bytes h = (bytes ≡ []) × (h ≡ g)
   ServesAll g (value ∷ values) bytes h =
-      (middle : Guest) × (first : List ℕ) × (rest : List ℕ) × (bytes ≡ first ++ rest) × Serves g value first middle × ServesAll middle values rest h
+      (middle : Guest) × (first : List ℕ) × (rest : List ℕ) × (bytes ≡ first ++ rest) × Tells g value first middle × ServesAll middle values rest h
 
   -- ---- how a piece is taken: `stream` is what was held before it, and then the piece
 

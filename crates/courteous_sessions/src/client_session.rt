@@ -1,12 +1,12 @@
 //! A session with courtesies or without.
 
 ghost use Rattle.std.specs.Prelude.{◌≡◌, ◌≤◌, ◌<◌, ◌↔◌, [], IsTrue, length, drop};
-ghost use Rattle.courteous_sessions.specs.Clients.{begun, unsent_of, held_of, listens_of, owes_password, wanting_password, with_unsent, Takes, NotifiesClient, TellsClient, knowing_epoch, port_before, knowing_port, name_of, listening_of};
+ghost use Rattle.courteous_sessions.specs.Clients.{begun, unsent_of, held_of, listens_of, owes_password, wanting_password, with_unsent, Takes, NotifiesClient, TellsClient, knowing_epoch, port_before, knowing_port, protocol_of, name_of, listening_of};
 
 use crate::courteous_session::CourteousSession;
 use crate::epochs::FarRequest;
 use ballot_law::{NoMemory, Note, Roster, Text};
-use client_commands::PortFacts;
+use client_commands::{PortFacts, Protocol};
 use port_sessions::Session;
 use pubsub::Event;
 use sentinel_cell::{Seat, SharedSentinel};
@@ -97,6 +97,16 @@ impl ClientSession {
         match self {
             ClientSession::Plain(_) => &[],
             ClientSession::Courteous(session) => session.name(),
+        }
+    }
+
+    /// Which protocol its client speaks.
+    pub fn protocol(&self) -> Protocol
+        ensures { result ≡ protocol_of self.now }
+    {
+        match self {
+            ClientSession::Plain(_) => Protocol::Two,
+            ClientSession::Courteous(session) => session.protocol(),
         }
     }
 

@@ -9,7 +9,7 @@ ghost use Rattle.courteous_sessions.specs.Visits.{unsubscribed, Receives};
 use crate::epochs::FarRequest;
 use crate::exchange::Exchange;
 use ballot_law::{NoMemory, Note, Roster, Text};
-use client_commands::PortFacts;
+use client_commands::{PortFacts, Protocol};
 use pubsub::Event;
 use sentinel_cell::{Seat, SharedSentinel};
 use sentinel_conf::ConfStore;
@@ -111,6 +111,13 @@ impl CourteousSession {
         self.exchange.attendant.name()
     }
 
+    /// Which protocol its client speaks.
+    pub fn protocol(&self) -> Protocol
+        ensures { result ≡ self.now.asker.protocol }
+    {
+        self.exchange.attendant.protocol()
+    }
+
     /// To how many channels it listens, and for how many patterns.
     pub fn subscriptions(&self) -> (u32, u32)
         ensures channels { result.0 ≡ length self.now.listening.channels }
@@ -126,7 +133,8 @@ impl CourteousSession {
     /// that of `Session::received`, or the courtesy of the value where it has one. INFO takes the turn of SENTINEL
     /// MASTERS, and no other courtesy takes one. Where the connection begins to hear of new addresses, by a channel or
     /// a pattern, that takes the turn of SUBSCRIBE, since whose entry notes are due to it; nothing else of Pub/Sub
-    /// takes one.
+    /// takes one. Each answer is told in the protocol that the client speaks then: RESP2 until HELLO asks for RESP3,
+    /// where one who listens has all commands.
     ///
     /// The first call learns the names of the Sentinel's masters, by which ROLE is answered from then on.
     ///

@@ -13,15 +13,15 @@ ghost use Rattle.resp2.specs.Framing.Frame.{Frame, view, spelling, HasLines, IsF
 ghost use Rattle.resp2.specs.Framing.Stream.{reading, held_size, bytes_in};
 ghost use Rattle.courteous_sessions.specs.Clients.{newcomer};
 ghost use Rattle.courteous_sessions.specs.Epochs.{heard_as};
-ghost use Rattle.courteous_sessions.specs.OnTheWay.{IsIdle, IsReady, IsOnTheWay, IsSameAsker, Steps, Drains, Refuses, BeginsWith, guest_of};
-ghost use Rattle.courteous_sessions.specs.Visits.{Guest, guest, unsubscribed, channel_turn, introduced, TellsInfo, Answers, Serves, Receives};
+ghost use Rattle.courteous_sessions.specs.OnTheWay.{AnswersBeside, IsIdle, IsReady, IsOnTheWay, IsSameAsker, Steps, Drains, Refuses, BeginsWith, guest_of};
+ghost use Rattle.courteous_sessions.specs.Visits.{Guest, guest, is_confined, unsubscribed, channel_turn, introduced, TellsInfo, Answers, Serves, ServesBeside, Receives};
 ghost use Rattle.pubsub.specs.Answering.{other};
 
 use crate::epochs::{FarRequest, far_request, heard_as, is_plain};
 use crate::questions::{ask, first_value, monitored_by};
 use ballot_law::{Command, NoMemory, Text};
 use bytes::BytesMut;
-use client_commands::{ClientInfo, CommandReader, Courtesy, Figures, PortFacts};
+use client_commands::{ClientInfo, CommandReader, Courtesy, Figures, PortFacts, Protocol};
 use port_sessions::Session;
 use pubsub::Subscriptions;
 use resp2::{CommandFault, FrameFault, Value, redis_command_of};
@@ -29,6 +29,7 @@ use sentinel_cell::{Seat, SharedSentinel};
 use sentinel_conf::ConfStore;
 use sentinel_core::ServeFault;
 use std::alloc::Global;
+use std::mem;
 use std::sync::Wait;
 
 /// The last line of a stream that is no RESP2.
@@ -63,6 +64,7 @@ fn newcomer(alloc: Global, id: u64) -> ClientInfo
     ClientInfo {
         id,
         name: Text::from_vec(Vec::new(alloc)),
+        protocol: Protocol::Two,
         listens: false,
         masters: Vec::new(alloc),
         password: None,
@@ -327,7 +329,7 @@ impl Exchange {
     }
 
     /// Has the session answer a command as it is heard, or a value that is none for this reason.
-    fn hand_on<S: ConfStore, R: Wait>(
+    pub(crate) fn hand_on<S: ConfStore, R: Wait>(
         &mut self,
         rt: &R,
         cell: &SharedSentinel<S>,
@@ -442,7 +444,58 @@ impl Exchange {
         }
     }
 
-    /// Attends to a value that Pub/Sub doesn't answer, and has it answered.
+    /// Has the value that was attended to be answered by a session beside the one below, which may listen to notes and
+    /// goes on doing so.
+    fn answer_beside<S: ConfStore, R: Wait>(
+        &mut self,
+        rt: &R,
+        cell: &SharedSentinel<S>,
+        seat: &mut Seat,
+        now: u64,
+        value: &Value,
+        kind: Courtesy,
+    ) -> Result<(), ServeFault>
+        requires own { seat.old.cell ≡ cell.now.id }
+        ensures own { seat.new.cell ≡ seat.old.cell }
+        ensures answered { OnOk result ((becomes : Answer) → kind ≡ kind_of becomes → self.old.attendant.text ≡ text_of becomes
+            → AnswersBeside cell.now.start now self.old.attendant.asker becomes seat.old.view (view value.now) self.old.unsent.items self.new.unsent.items
+            seat.new.view) }
+        ensures same { IsSameAsker self.old.attendant self.new.attendant }
+        ensures session { self.new.session ≡ self.old.session }
+        ensures err { OnErr result (self.new.unsent.items ≡ self.old.unsent.items) }
+        ensures fault { IfErr result (λ fault. (fault ≡ ServeFault.Halted) ⊎ (fault ≡ ServeFault.NoMemory)) }
+        ensures kept { (self.new.knows_masters ≡ self.old.knows_masters) × (self.new.subscriptions ≡ self.old.subscriptions) }
+    {
+        let session = mem::replace(&mut self.session, Session::new(self.alloc));
+        let answered = self.answer(rt, cell, seat, now, value, kind);
+        self.session = session;
+        answered
+    }
+
+    /// Whether the connection has no commands but those of Pub/Sub and PING, since it listens at protocol 2.
+    fn is_confined(&self) -> bool
+        ensures { result ≡ is_confined self.now.attendant.asker.protocol self.now.subscriptions }
+    {
+        match self.attendant.protocol() {
+            Protocol::Two => self.subscriptions.is_listening(),
+            Protocol::Three => false,
+        }
+    }
+
+    /// Has the attendant know whether the connection has other commands.
+    pub(crate) fn note_listening(&mut self)
+        ensures attendant { self.new.attendant ≡ record self.old.attendant {
+          asker = record self.old.attendant.asker { listens = is_confined self.old.attendant.asker.protocol self.old.subscriptions };
+        } }
+        ensures session { self.new.session ≡ self.old.session }
+        ensures unsent { self.new.unsent ≡ self.old.unsent }
+        ensures kept { (self.new.knows_masters ≡ self.old.knows_masters) × (self.new.subscriptions ≡ self.old.subscriptions) }
+    {
+        let listens = self.is_confined();
+        self.attendant.note_listening(listens);
+    }
+
+    /// Attends to a value that Pub/Sub doesn't answer, at protocol 2, and has it answered.
     pub(crate) fn attend_to<S: ConfStore, R: Wait>(
         &mut self,
         rt: &R,
@@ -454,7 +507,8 @@ impl Exchange {
         requires own { seat.old.cell ≡ cell.now.id }
         requires ready { IsReady self.old.attendant self.old.subscriptions self.old.session }
         requires frame { IsFrame (view value.now) × HasLines (view value.now) }
-        requires other { channel_turn self.old.attendant.asker self.old.subscriptions (view value.now) ≡ other }
+        requires other { (channel_turn self.old.attendant.asker self.old.subscriptions (view value.now) ≡ other)
+            × (self.old.attendant.asker.protocol ≡ Protocol.Two) }
         ensures own { seat.new.cell ≡ seat.old.cell }
         ensures served { OnOk result ((more : List ℕ) × (self.new.unsent.items ≡ self.old.unsent.items ++ more)
             × IsReady self.new.attendant self.new.subscriptions self.new.session
@@ -466,7 +520,43 @@ impl Exchange {
         ensures knows { self.new.knows_masters ≡ self.old.knows_masters }
     {
         match self.attendant.attend_to(value) {
-            Ok(kind) => self.answer(rt, cell, seat, now, value, kind),
+            Ok(kind) => {
+                self.answer(rt, cell, seat, now, value, kind)?;
+                self.note_listening();
+                Ok(())
+            }
+            Err(_) => Err(ServeFault::NoMemory),
+        }
+    }
+
+    /// The same at protocol 3, where it may listen meanwhile.
+    pub(crate) fn attend_beside<S: ConfStore, R: Wait>(
+        &mut self,
+        rt: &R,
+        cell: &SharedSentinel<S>,
+        seat: &mut Seat,
+        now: u64,
+        value: &Value,
+    ) -> Result<(), ServeFault>
+        requires own { seat.old.cell ≡ cell.now.id }
+        requires ready { IsReady self.old.attendant self.old.subscriptions self.old.session }
+        requires other { channel_turn self.old.attendant.asker self.old.subscriptions (view value.now) ≡ other }
+        ensures own { seat.new.cell ≡ seat.old.cell }
+        ensures served { OnOk result ((more : List ℕ) × (self.new.unsent.items ≡ self.old.unsent.items ++ more)
+            × IsReady self.new.attendant self.new.subscriptions self.new.session
+            × ServesBeside cell.now.start now (guest_of self.old.attendant self.old.subscriptions self.old.session seat.old.view) (view value.now) more
+            (guest_of self.new.attendant self.new.subscriptions self.new.session seat.new.view)) }
+        ensures held { OnOk result (self.new.attendant.held ≡ self.old.attendant.held) }
+        ensures fault { IfErr result (λ fault. ((fault ≡ ServeFault.Halted) ⊎ (fault ≡ ServeFault.NoMemory))
+            × (self.new.unsent.items ≡ self.old.unsent.items)) }
+        ensures knows { self.new.knows_masters ≡ self.old.knows_masters }
+    {
+        match self.attendant.attend_to(value) {
+            Ok(kind) => {
+                self.answer_beside(rt, cell, seat, now, value, kind)?;
+                self.note_listening();
+                Ok(())
+            }
             Err(_) => Err(ServeFault::NoMemory),
         }
     }
@@ -492,7 +582,7 @@ impl Exchange {
             (guest_of self.new.attendant self.new.subscriptions self.new.session seat.new.view) }
     {
         match self.attendant.next() {
-            Ok(Some(value)) => match self.answer_value(rt, cell, seat, now, &value) {
+            Ok(Some(value)) => match self.tell_value(rt, cell, seat, now, &value) {
                 Ok(()) => Ok(true),
                 Err(fault) => Err(fault),
             },
@@ -541,7 +631,7 @@ impl Exchange {
             (guest_of self.new.attendant self.new.subscriptions self.new.session seat.new.view) }
     {
         match self.next_common() {
-            Some(command) => match self.hand_on(rt, cell, seat, now, &Ok(command)) {
+            Some(command) => match self.tell_common(rt, cell, seat, now, command) {
                 Ok(()) => Ok(true),
                 Err(fault) => Err(fault),
             },

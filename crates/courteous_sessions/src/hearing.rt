@@ -8,12 +8,16 @@ ghost use Rattle.port_sessions.specs.Listening.{note_text};
 ghost use Rattle.resp2.specs.Framing.Frame.{view, spellings, HasLines, IsFrame};
 ghost use Rattle.courteous_sessions.specs.Events.{event_told};
 ghost use Rattle.courteous_sessions.specs.OnTheWay.{IsIdle, IsReady, IsTuned, NotifiesBelow, TellsBelow, guest_of};
-ghost use Rattle.courteous_sessions.specs.Visits.{channel_turn, hears_switches, switches, Serves};
+ghost use Rattle.courteous_sessions.specs.Visits.{is_confined, channel_turn, hears_switches, switches, ServesIn};
 ghost use Rattle.pubsub.specs.Telling.{told};
+ghost use Rattle.courteous_sessions.specs.Retelling.{JoinsTold};
 
 use crate::exchange::{Exchange, put_out};
 use crate::questions::ask;
+use crate::retelling::put_told;
+use crate::shapes::{Shape, subscribes};
 use ballot_law::{Command, NoMemory, Note, Roster};
+use client_commands::Protocol;
 use port_sessions::{Session, add_note};
 use pubsub::{Channel, Event, Subscriptions, Turn};
 use resp2::{OutText, Value};
@@ -62,6 +66,9 @@ impl Exchange {
         ensures fault { IfErr result (λ fault. fault ≡ ServeFault.NoMemory) }
     {
         if self.attendant.is_stranger() {
+            return Ok(Turn::Other);
+        }
+        if !self.attendant.protocol().is_two() && !subscribes(value) {
             return Ok(Turn::Other);
         }
         match self.subscriptions.answer(value, answer) {
@@ -137,7 +144,7 @@ impl Exchange {
         ensures tuned { OnOk result (IsTuned cell.now.start now (hears_switches self.old.subscriptions) self.old.session seat.old.view self.new.session
             seat.new.view) }
         ensures attendant { OnOk result (self.new.attendant ≡ record self.old.attendant {
-          asker = record self.old.attendant.asker { listens = is_listening self.old.subscriptions };
+          asker = record self.old.attendant.asker { listens = is_confined self.old.attendant.asker.protocol self.old.subscriptions };
         }) }
         ensures unsent { OnOk result (self.new.unsent.items ≡ self.old.unsent.items ++ answer.now) }
         ensures kept { (self.new.knows_masters ≡ self.old.knows_masters) × (self.new.subscriptions ≡ self.old.subscriptions) }
@@ -145,12 +152,12 @@ impl Exchange {
             × (self.new.unsent.items ≡ self.old.unsent.items)) }
     {
         self.tune(rt, cell, seat, now)?;
-        self.attendant
-            .note_listening(self.subscriptions.is_listening());
+        self.note_listening();
         put_out(&mut self.unsent, answer)
     }
 
     /// Has a value answered: by Pub/Sub, where that has an answer to it, and else by a courtesy or the session below.
+    /// The answer is that of protocol 2.
     pub(crate) fn answer_value<S: ConfStore, R: Wait>(
         &mut self,
         rt: &R,
@@ -165,7 +172,8 @@ impl Exchange {
         ensures own { seat.new.cell ≡ seat.old.cell }
         ensures served { OnOk result ((more : List ℕ) × (self.new.unsent.items ≡ self.old.unsent.items ++ more)
             × IsReady self.new.attendant self.new.subscriptions self.new.session
-            × Serves cell.now.start now (guest_of self.old.attendant self.old.subscriptions self.old.session seat.old.view) (view value.now) more
+            × ServesIn cell.now.start now self.old.attendant.asker.protocol
+            (guest_of self.old.attendant self.old.subscriptions self.old.session seat.old.view) (view value.now) more
             (guest_of self.new.attendant self.new.subscriptions self.new.session seat.new.view)) }
         ensures held { OnOk result (self.new.attendant.held ≡ self.old.attendant.held) }
         ensures fault { IfErr result (λ fault. ((fault ≡ ServeFault.Halted) ⊎ (fault ≡ ServeFault.NoMemory))
@@ -175,13 +183,37 @@ impl Exchange {
         let mut answer = OutText::new(self.alloc);
         match self.channel_turn(value, &mut answer)? {
             Turn::Said => self.confirm(rt, cell, seat, now, answer.as_slice()),
-            Turn::Other => self.attend_to(rt, cell, seat, now, value),
+            Turn::Other => match self.attendant.protocol() {
+                Protocol::Two => self.attend_to(rt, cell, seat, now, value),
+                Protocol::Three => self.attend_beside(rt, cell, seat, now, value),
+            },
         }
+    }
+
+    /// Has messages join what isn't sent yet, as the connection's protocol tells them.
+    fn push_out(&mut self, messages: &[u8]) -> Result<(), ServeFault>
+        ensures ok { OnOk result (JoinsTold self.old.attendant.asker.protocol Shape.Pushes messages.now self.old.unsent.items
+            self.new.unsent.items) }
+        ensures err { OnErr result (self.new.unsent.items ≡ self.old.unsent.items) }
+        ensures session { self.new.session ≡ self.old.session }
+        ensures attendant { self.new.attendant ≡ self.old.attendant }
+        ensures kept { (self.new.knows_masters ≡ self.old.knows_masters) × (self.new.subscriptions ≡ self.old.subscriptions) }
+        ensures fault { IfErr result (λ fault. fault ≡ ServeFault.NoMemory) }
+    {
+        let protocol = self.attendant.protocol();
+        put_told(
+            self.alloc,
+            &mut self.unsent,
+            protocol,
+            Shape::Pushes,
+            messages,
+        )
     }
 
     /// Has what the connection is told of this text, on the channel of new addresses, join what isn't sent yet.
     fn tell_switch(&mut self, text: &[u8]) -> Result<(), NoMemory>
-        ensures ok { OnOk result (self.new.unsent.items ≡ self.old.unsent.items ++ spellings (told self.old.subscriptions switches text.now)) }
+        ensures ok { OnOk result (JoinsTold self.old.attendant.asker.protocol Shape.Pushes (spellings (told self.old.subscriptions switches text.now))
+            self.old.unsent.items self.new.unsent.items) }
         ensures err { OnErr result (self.new.unsent.items ≡ self.old.unsent.items) }
         ensures session { self.new.session ≡ self.old.session }
         ensures attendant { self.new.attendant ≡ self.old.attendant }
@@ -189,8 +221,9 @@ impl Exchange {
     {
         let mut told = OutText::new(self.alloc);
         let channel = Channel::SwitchMaster.name();
+        self.subscriptions.find_out(Channel::SwitchMaster);
         self.subscriptions.tell(channel, text, &mut told)?;
-        match put_out(&mut self.unsent, told.as_slice()) {
+        match self.push_out(told.as_slice()) {
             Ok(()) => Ok(()),
             Err(_) => Err(NoMemory),
         }
@@ -207,7 +240,7 @@ impl Exchange {
         requires master { note.now.master < length roster.now.masters }
         requires ready { IsReady self.old.attendant self.old.subscriptions self.old.session }
         ensures ready { IsReady self.new.attendant self.new.subscriptions self.new.session }
-        ensures told { NotifiesBelow roster.now note.now entry self.old.subscriptions self.old.session self.old.unsent.items result self.new.session
+        ensures told { NotifiesBelow roster.now note.now entry self.old.attendant.asker.protocol self.old.subscriptions self.old.session self.old.unsent.items result self.new.session
             self.new.unsent.items }
         ensures attendant { self.new.attendant ≡ self.old.attendant }
         ensures kept { (self.new.knows_masters ≡ self.old.knows_masters) × (self.new.subscriptions ≡ self.old.subscriptions) }
@@ -225,14 +258,15 @@ impl Exchange {
     /// Tells the client of an event, where a channel or a pattern of the connection matches its channel: whether
     /// anything is told. After `NoMemory` nothing changed, and the client misses an event.
     pub(crate) fn tell_event(&mut self, event: &Event) -> Result<bool, NoMemory>
-        ensures told { TellsBelow event.now self.old.subscriptions self.old.unsent.items result self.new.unsent.items }
+        ensures told { TellsBelow event.now self.old.attendant.asker.protocol self.old.subscriptions self.old.unsent.items result self.new.unsent.items }
         ensures session { self.new.session ≡ self.old.session }
         ensures attendant { self.new.attendant ≡ self.old.attendant }
         ensures kept { (self.new.knows_masters ≡ self.old.knows_masters) × (self.new.subscriptions ≡ self.old.subscriptions) }
     {
         let mut told = OutText::new(self.alloc);
+        self.subscriptions.find_out(event.channel);
         write_event(&self.subscriptions, event, &mut told)?;
-        match put_out(&mut self.unsent, told.as_slice()) {
+        match self.push_out(told.as_slice()) {
             Ok(()) => Ok(!told.as_slice().is_empty()),
             Err(_) => Err(NoMemory),
         }

@@ -1,11 +1,12 @@
 //! What a session with courtesies keeps of the one without.
 
-ghost use Rattle.courteous_sessions.specs.Laws.{AnswersListeners, AnswersOwnAsBefore, HearsAll, HearsFar, HearsNear, IsPassedOver, NoOtherNoteIsTold, NothingElseIsTold, PiecesJoin, StrangersTakeNoTurn, TakesNoTurn};
+ghost use Rattle.courteous_sessions.specs.Retelling.{PlainIsSpelled, SaysTheSame};
+ghost use Rattle.courteous_sessions.specs.Laws.{AnswersListeners, AnswersOwnAsBefore, AnswersOwnInThree, ConfirmsByPushes, TellsAsItIs, HearsAll, HearsFar, HearsNear, IsPassedOver, NoOtherNoteIsTold, NothingElseIsTold, PiecesJoin, StrangersTakeNoTurn, TakesNoTurn};
 
-/// Where no password is wanted that the client didn't give, and the connection doesn't listen, a command of the
-/// Sentinel's rules but SUBSCRIBE is answered as by a session without courtesies, and changes nothing that is known of
-/// the connection. One exception is there, of a connection that was told the Sentinel's current epoch: a request for a
-/// vote in an epoch that is more than `EPOCHS_AHEAD` above it is answered as one of epoch 0.
+/// Where no password is wanted that the client didn't give, and the connection speaks protocol 2 and doesn't listen, a
+/// command of the Sentinel's rules but SUBSCRIBE is answered as by a session without courtesies, and changes nothing
+/// that is known of the connection. One exception is there, of a connection that was told the Sentinel's current epoch:
+/// a request for a vote in an epoch that is more than `EPOCHS_AHEAD` above it is answered as one of epoch 0.
 pub fn law_own_commands_are_answered_as_before()
     ensures answered { AnswersOwnAsBefore }
     ensures untold { HearsAll }
@@ -13,7 +14,24 @@ pub fn law_own_commands_are_answered_as_before()
     ensures far { HearsFar }
 {}
 
-/// While a connection listens, Pub/Sub alone answers the commands of the Sentinel's rules.
+/// Values that protocol 3 tells alike are the same in protocol 2, up to which of its two nulls is told; so a client of
+/// protocol 3 hears no less than one of protocol 2. An answer that is copied, as it is a null or holds none, is what
+/// protocol 3 spells.
+pub fn law_protocols_say_the_same()
+    ensures values { SaysTheSame }
+    ensures copied { PlainIsSpelled }
+{}
+
+/// At protocol 2 each answer is told as it is. At protocol 3 a command of the Sentinel's rules but SUBSCRIBE is
+/// answered as to one who listens to nothing, whether the connection listens or not, and then told in protocol 3's
+/// way. What changes to what it listens is answered as at protocol 2, and told as pushes.
+pub fn law_protocols_tell_the_same_answers()
+    ensures two { TellsAsItIs }
+    ensures three { AnswersOwnInThree }
+    ensures channels { ConfirmsByPushes }
+{}
+
+/// While a connection listens at protocol 2, Pub/Sub alone answers the commands of the Sentinel's rules.
 pub fn law_listeners_are_answered_by_channels()
     ensures { AnswersListeners }
 {}

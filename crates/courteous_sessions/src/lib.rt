@@ -4,7 +4,8 @@
 //!
 //! It stands over a `Session` of `port_sessions` by its public calls alone, so a session without courtesies is that
 //! session itself: `ClientSession` is one or the other. What a client is answered stands in `specs/Visits`; what it is
-//! told besides in `specs/Events`, and what each call of a `ClientSession` does in `specs/Clients`.
+//! told besides in `specs/Events`, and what each call of a `ClientSession` does in `specs/Clients`. All of that is in
+//! RESP2; how it is told to a client that asked for RESP3 stands in `specs/Retelling`.
 #![tactic(auto)]
 
 mod client_session;
@@ -14,6 +15,9 @@ mod exchange;
 mod hearing;
 mod laws;
 mod questions;
+mod retelling;
+mod shapes;
+mod speaking;
 
 pub use client_session::ClientSession;
 pub use courteous_session::CourteousSession;
@@ -21,5 +25,6 @@ pub use epochs::{EPOCHS_AHEAD, FarRequest, is_far};
 pub use laws::{
     law_channels_tell_nothing_else, law_courtesies_take_no_turn,
     law_listeners_are_answered_by_channels, law_own_commands_are_answered_as_before,
-    law_pieces_join, law_strangers_take_no_turn,
+    law_pieces_join, law_protocols_say_the_same, law_protocols_tell_the_same_answers,
+    law_strangers_take_no_turn,
 };

@@ -20,7 +20,7 @@ use Rattle.links.specs.declared.speaking.TheConstants.{UNSENT_MAX}
 use Rattle.links.specs.declared.target.Target.{Target}
 use Rattle.links.specs.NodeLinks.{fresh, IsAsked, IsHeardOn, IsKept}
 use Rattle.links.specs.Schedules.{excused}
-use Rattle.links.specs.Speaking.{bytes_for, questions_for, row_bytes, login_bytes, login_questions, id_bytes, id_questions, listen_bytes, listen_questions}
+use Rattle.links.specs.Speaking.{bytes_for, questions_for, row_bytes, ack_bytes, login_bytes, login_questions, id_bytes, id_questions, listen_bytes, listen_questions}
 use Rattle.links.proofs.Hearing.{all_append, told}
 
 kept_fresh : (target : Target) → IsKept target (fresh target)
@@ -142,6 +142,14 @@ kept_row target name before talk kept is bounds =
     let short = subst (λ (t : Link). length t.unsent ≤ UNSENT_MAX) is bounds.0 in
     let few = subst (λ (t : Link). length t.asked ≤ ASKED_MAX) is bounds.1 in
     subst (IsKept target) (sym is) (kept_more target before (row_bytes name) (asks.Order ∷ []) kept (tt, tt) short few)
+
+pub kept_ack : (target : Target) (before talk : Link) → IsKept target before
+    → talk ≡ record before { unsent = before.unsent ++ ack_bytes; asked = before.asked ++ asks.Order ∷ [] }
+    → (length talk.unsent ≤ UNSENT_MAX) × (length talk.asked ≤ ASKED_MAX) → IsKept target talk
+kept_ack target before talk kept is bounds =
+    let short = subst (λ (t : Link). length t.unsent ≤ UNSENT_MAX) is bounds.0 in
+    let few = subst (λ (t : Link). length t.asked ≤ ASKED_MAX) is bounds.1 in
+    subst (IsKept target) (sym is) (kept_more target before ack_bytes (asks.Order ∷ []) kept (tt, tt) short few)
 
 -- where no answer was awaited, the silence that counts begins now
 pub excused_waiting : (now : ℕ) (asked : List Question) (times : Schedule) → 0 < length asked → excused now asked times ≡ times

@@ -14,7 +14,7 @@ use Rattle.links.specs.declared.speaking.Login.{Login}
 use Rattle.links.specs.declared.speaking.TheConstants.{UNSENT_MAX}
 use Rattle.links.specs.declared.target.Target.{Target}
 use Rattle.links.specs.Schedules.{begun, closed, excused}
-use Rattle.links.specs.Speaking.{bytes_for, questions_for, row_bytes, login_bytes, login_questions, id_bytes, id_questions, listen_bytes, listen_questions}
+use Rattle.links.specs.Speaking.{bytes_for, questions_for, row_bytes, ack_bytes, login_bytes, login_questions, id_bytes, id_questions, listen_bytes, listen_questions}
 
 -- which node it is to, its times, and what is asked, held and unsent on it
 pub record State : Type 0 where
@@ -55,6 +55,14 @@ row_asked_at now name state = record {
   target = state.target;
   schedule = record state.schedule { quiet = now };
   talk = record state.talk { unsent = state.talk.unsent ++ row_bytes name; asked = state.talk.asked ++ asks.Order ∷ [] };
+}
+
+-- that the node is to acknowledge joins what is unsent, and one answer is awaited, which tells nothing
+abbrev pub ack_asked_at : ℕ → State → State
+ack_asked_at now state = record {
+  target = state.target;
+  schedule = excused now state.talk.asked state.schedule;
+  talk = record state.talk { unsent = state.talk.unsent ++ ack_bytes; asked = state.talk.asked ++ asks.Order ∷ [] };
 }
 
 -- what may be heard on it: answers of its node, and hellos where it listens

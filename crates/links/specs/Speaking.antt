@@ -38,6 +38,14 @@ questions_for body = question_of body ∷ []
 abbrev pub row_bytes : List ℕ → List ℕ
 row_bytes name = command_bytes (codes "SENTINEL" ∷ codes "MASTER" ∷ name ∷ [])
 
+-- A replica acknowledges at once what it has of its master's stream. REPLCONF is answered with nothing, or with an error where the client may not send it; so answers
+-- are off around it, and one comes, to the last command
+abbrev pub ack_bytes : List ℕ
+ack_bytes =
+    command_bytes (codes "CLIENT" ∷ codes "REPLY" ∷ codes "OFF" ∷ [])
+    ++ (command_bytes (codes "REPLCONF" ∷ codes "GETACK" ∷ codes "*" ∷ [])
+    ++ command_bytes (codes "CLIENT" ∷ codes "REPLY" ∷ codes "ON" ∷ []))
+
 -- ---- before all messages
 
 abbrev pub login_bytes : Login → List ℕ

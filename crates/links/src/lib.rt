@@ -2,7 +2,7 @@
 //! socket: which node a connection is to (`Target`), when it is opened, given up and asked (`Schedule`), what goes over
 //! it and is heard on it meanwhile (`NodeLink`), and when the Sentinel ticks (`TickSchedule`). Beside them: how much
 //! may be heard (`RateLimit`), which hellos were heard already (`HelloDedup`), what is to be noted of connections
-//! (`SilenceTimer`, `RecentFaults`, `is_refusal`), and INFO with names in it (`without_names`).
+//! (`SilenceTimer`, `RecentFaults`, `is_refusal`, `wants_login`), and INFO with names in it (`without_names`).
 //!
 //! ```text
 //! if link.stale(now).is_some() { link.close(now); }         // and its owner drops the socket
@@ -32,7 +32,7 @@ pub use host_names::without_names;
 pub use node_link::NodeLink;
 pub use rate_limit::{FLOW_MS, RateLimit};
 pub use recent_faults::RecentFaults;
-pub use refusals::is_refusal;
+pub use refusals::{is_refusal, wants_login};
 pub use schedule::{Schedule, Stage, Stale, ping_each};
 pub use sessions::{
     ASKED_MAX, BULK_MAX, HELD_MAX, LinkFault, LinkSession, Question, TOLD_MAX, Vote,

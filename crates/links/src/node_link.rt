@@ -8,12 +8,12 @@ ghost use Rattle.links.specs.Sessions.Links.{Receives};
 ghost use Rattle.node_texts.specs.Messages.MessageTexts.{IsWritable};
 ghost use Rattle.links.specs.declared.schedule.Stage.TheVariants.{Closed, Opening, Open};
 ghost use Rattle.links.specs.declared.schedule.Stale.TheVariants.{Unreached, Silent, NoHello};
-ghost use Rattle.links.specs.NodeLinks.{fresh, closed_at, opening_at, asked_at, row_asked_at, IsHeardOn, IsBounded};
+ghost use Rattle.links.specs.NodeLinks.{fresh, closed_at, opening_at, asked_at, row_asked_at, ack_asked_at, IsHeardOn, IsBounded};
 ghost use Rattle.links.specs.Schedules.{IsPast, closed};
 
 use crate::schedule::{CONNECT_MS, NO_HELLO_MS, SILENT_MS, Schedule, Stale};
 use crate::sessions::{LinkFault, LinkSession};
-use crate::speaking::{Login, put_first_words, put_message, put_row_question};
+use crate::speaking::{Login, put_ack_question, put_first_words, put_message, put_row_question};
 use crate::target::Target;
 use ballot_law::{Body, Event, Message, NodeName};
 use std::alloc::Global;
@@ -306,6 +306,33 @@ impl NodeLink {
             Ok(()) => {
                 self.schedule.excuse(now);
                 Ok(true)
+            }
+            Err(fault) => {
+                self.session = closed(self.alloc, self.target, &mut self.schedule, now);
+                Err(fault)
+            }
+        }
+    }
+
+    /// Asks a replica to acknowledge at once what it has of its master's stream, where it is open: what it would do
+    /// within a second by itself. The answer tells nothing. A fault closes it.
+    #[tactic(auto, using(crate::proofs::Keeping::excused_waiting, crate::proofs::Keeping::excused_alone))]
+    pub fn ask_ack(&mut self, now: u64) -> Result<(), LinkFault>
+        ensures shut { self.old.schedule.stage ≢ Open → self.new ≡ self.old }
+        ensures ok { OnOk result (self.old.schedule.stage ≡ Open → self.new ≡ ack_asked_at now self.old) }
+        ensures err { OnErr result (self.new ≡ closed_at now self.old) }
+        ensures target { self.new.target ≡ self.old.target }
+    {
+        if !self.schedule.is_open() {
+            return Ok(());
+        }
+        let waits = self.session.is_waiting();
+        match put_ack_question(&mut self.session) {
+            Ok(()) => {
+                if !waits {
+                    self.schedule.excuse(now);
+                }
+                Ok(())
             }
             Err(fault) => {
                 self.session = closed(self.alloc, self.target, &mut self.schedule, now);

@@ -9,3 +9,9 @@ pub fn is_refusal(piece: &[u8]) -> bool {
         || piece.starts_with(b"-WRONGPASS ")
         || piece.starts_with(b"-NOPERM ")
 }
+
+/// Whether a piece of what a node sends begins with the error of one that wants a password first, so that it
+/// refuses all that is asked on this connection.
+pub fn wants_login(piece: &[u8]) -> bool {
+    piece.starts_with(b"-NOAUTH ")
+}

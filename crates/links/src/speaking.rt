@@ -2,7 +2,7 @@
 
 ghost use Rattle.std.specs.Prelude.{◌≡◌, ◌≤◌, ◌↔◌, ◌++◌, ◌∷◌, [], length, IsOk, IfErr, OnOk, codes};
 ghost use Rattle.node_texts.specs.Messages.MessageTexts.{IsWritable, message_bytes};
-ghost use Rattle.links.specs.Speaking.{bytes_for, questions_for, command_bytes, after_order, row_bytes, login_bytes, login_questions, id_bytes, id_questions, listen_bytes, listen_questions};
+ghost use Rattle.links.specs.Speaking.{bytes_for, questions_for, command_bytes, after_order, row_bytes, ack_bytes, login_bytes, login_questions, id_bytes, id_questions, listen_bytes, listen_questions};
 ghost use Rattle.links.specs.Sessions.Links.{question_of};
 ghost use Rattle.links.specs.declared.sessions.questions.Question.TheVariants as asks;
 
@@ -105,6 +105,19 @@ pub(crate) fn put_row_question(session: &mut LinkSession, name: &[u8]) -> Result
     ensures bounded { OnOk result ((length session.new.unsent ≤ UNSENT_MAX) × (length session.new.asked ≤ ASKED_MAX)) }
 {
     session.order(&[b"SENTINEL", b"MASTER", name])?;
+    is_short(session)
+}
+
+/// Puts out that a replica is to acknowledge at once what it has of its master's stream. The one answer tells nothing.
+/// A fault is as that of `put_message`.
+pub(crate) fn put_ack_question(session: &mut LinkSession) -> Result<(), LinkFault>
+    ensures ok { OnOk result (session.new ≡ record session.old {
+      unsent = session.old.unsent ++ ack_bytes;
+      asked = session.old.asked ++ asks.Order ∷ [];
+    }) }
+    ensures bounded { OnOk result ((length session.new.unsent ≤ UNSENT_MAX) × (length session.new.asked ≤ ASKED_MAX)) }
+{
+    session.ask_ack()?;
     is_short(session)
 }
 

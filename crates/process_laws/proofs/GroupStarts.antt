@@ -281,7 +281,7 @@ module _ {X : Type 0} (conf_of : X → ConfPlan) (roster : Roster) (first : X) (
   opens : (i : ℕ) → i < n → OpensAt roster begin i (conf_at (slot i))
   opens i low = (
     low,
-    λ profile now.
+    λ profile reboots now.
         record {
           place = refl;
           roster_is = differs_at i low;

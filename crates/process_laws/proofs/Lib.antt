@@ -13,6 +13,7 @@ pub mod Reading
 pub mod Turns
 pub mod Joining
 pub mod About
+pub mod OwnCommands
 pub mod SharedConnections
 pub mod HeardAnswers
 pub mod Pieces

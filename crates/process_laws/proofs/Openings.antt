@@ -15,8 +15,9 @@ use Rattle.ballot_law.specs.Words.{id_text, run_id}
 use Rattle.ballot_law.proofs.CountedVotes.{same_id-equal}
 use Rattle.ballot_law.proofs.WordLemmas.{run_id-id_text, length-id_text}
 use Rattle.client_commands.specs.Courtesies.{is_stranger}
-use Rattle.courteous_sessions.specs.Visits.{Guest, guest, Serves}
-use Rattle.courteous_sessions.proofs.Keeping.{own_as_before}
+use Rattle.courteous_sessions.specs.Visits.{Guest, guest, Tells as TellsClient}
+use Rattle.courteous_sessions.specs.Epochs.{heard}
+use Rattle.courteous_sessions.specs.Retelling.{is_null}
 use Rattle.links.specs.declared.sessions.fault.LinkFault.{LinkFault}
 use Rattle.links.specs.declared.sessions.fault.LinkFault.TheVariants.{Strange}
 use Rattle.links.specs.declared.sessions.questions.Question.{Question}
@@ -29,6 +30,7 @@ use Rattle.links.specs.Sessions.LongValues.{told_value, told_of, IsLinkValue, wh
 use Rattle.links.proofs.SessionsLemmas.Values.{value_plain}
 use Rattle.node_texts.specs.Messages.MessageTexts.{message_bytes, body_frame, words_frame}
 use Rattle.port_answers.specs.Answers.{id_frame}
+use Rattle.port_sessions.specs.Talks.{Party, party}
 use Rattle.pubsub.specs.Listening.{is_listening}
 use Rattle.resp2.specs.Commands.{command_of}
 use Rattle.resp2.specs.Framing.Frame.{Frame, simple, fault, int, bulk, null_bulk, items, null_items, spelling, IsPlain, IsFrame}
@@ -43,10 +45,11 @@ use Rattle.sentinel_rules.specs.Plans.{Plan, me}
 use Rattle.process_laws.specs.Connections.{IsAskable, AreDelivered}
 use Rattle.process_laws.specs.SharedConnections.{ServedBeside}
 use Rattle.process_laws.specs.Openings.{IsConnectedAnew, IsHeardOf, NewConnectionsDeliver, PiecesAreANewConnection}
+use Rattle.process_laws.proofs.OwnCommands.{own_answer}
 use Rattle.process_laws.proofs.Joining.{spelled_some, first_asked, others_asked, by_first}
 use Rattle.process_laws.proofs.Pieces.{questions_spelled, served_as_sent}
 use Rattle.process_laws.proofs.SharedConnections.{later_delivered, delivered}
-use Rattle.process_laws.proofs.Turns.{answers, turned}
+use Rattle.process_laws.proofs.Turns.{answers, turned, no_null}
 
 -- ---- a question whose answer tells nothing
 
@@ -102,30 +105,47 @@ id_value_whole = short_array (codes "SENTINEL" ∷ codes "MYID" ∷ []) (omega a
 id_read : command_of id_value ≡ Ok MyId
 id_read = refl
 
+-- it is heard as it is
+id_as_it_is : (current : Option ℕ) → heard current MyId ≡ MyId
+id_as_it_is None = refl
+id_as_it_is (Some epoch) = refl
+
 pub record IdReply (start : World) (v : View) (bytes : List ℕ) (w : View) : Type 0 where
   pub more : List Entry
   pub front : w.front ≡ v.front ++ more
   pub is_id : IsRunId (me start.plan)
   pub spelled : bytes ≡ spelling (id_frame (me start.plan))
 
-id_replied : (start : World) (now : ℕ) (g : Guest) (bytes : List ℕ) (h : Guest) → is_stranger g.asker ≡ false → is_listening g.listening ≡ false → g.party.listens ≡ None
-    → Serves start now g id_value bytes h
+-- a run id is no null
+id_some : (id : RunId) → is_null (spelling (id_frame id)) ≡ false
+id_some id =
+    let len = length-id_text id in
+    no_null (id_frame id) (omega (arith, len)) (λ e. let no : ⊥ = cc in no) (λ e. let no : ⊥ = cc in no)
+
+id_replied : (start : World) (now : ℕ) (g : Guest) (bytes : List ℕ) (h : Guest) → is_stranger g.asker ≡ false → is_listening g.listening ≡ false
+    → g.party.listens ≡ None → TellsClient start now g id_value bytes h
     → IdReply start g.party.view bytes h.party.view × (h.party.listens ≡ None) × (h ≡ guest h.party g.listening g.told g.asker)
 id_replied start now g bytes h known quiet silent serves =
-    let own = own_as_before start now g h id_value MyId bytes known quiet (λ (e : MyId ≡ Subscribe). let no : ⊥ = cc in no) (known_too id_value MyId id_read) serves in
-    let a = answers start now g.party (Ok MyId) MyId bytes h.party silent refl own.0 in
-    let t = turned start now g.party.view MyId bytes h.party.view a.0 in
+    let own = own_answer start now g h id_value MyId bytes known quiet silent (λ (e : MyId ≡ Subscribe). let no : ⊥ = cc in no) (λ answer told is. is)
+    (known_too id_value MyId id_read) serves in
+    let own_id : heard g.asker.current MyId ≡ MyId = id_as_it_is g.asker.current in
+    let a = answers start now (party g.party.view None) (Ok (heard g.asker.current MyId)) MyId own.answer own.q refl (ap Ok own_id) own.responds in
+    let t = turned start now g.party.view MyId own.answer own.q.view a.0 in
+    let same : h ≡ guest own.q g.listening g.told g.asker = own.same a.1 in
+    let party_is : own.q ≡ h.party = ap (λ (x : Guest). x.party) (sym same) in
     let world = replay start (g.party.view.front ++ t.between) in
     let plan_is : world.plan ≡ start.plan = same_plan start (g.party.view.front ++ t.between) in
+    let spelled : own.answer ≡ spelling (id_frame (me start.plan)) = t.bytes_are ∙ ap (λ (p : Plan). spelling (id_frame (me p))) plan_is in
+    let told : bytes ≡ own.answer = own.told (ap is_null spelled ∙ id_some (me start.plan)) in
     let sound = t.legal.0.plan in (
       record {
         more = t.between ++ t.entry ∷ [];
-        front = t.front ∙ append_assoc g.party.view.front t.between (t.entry ∷ []);
+        front = ap (λ (p : Party). p.view.front) (sym party_is) ∙ (t.front ∙ append_assoc g.party.view.front t.between (t.entry ∷ []));
         is_id = (sound.conf.members start.plan.place sound.place).1;
-        spelled = t.bytes_are ∙ ap (λ (p : Plan). spelling (id_frame (me p))) plan_is;
+        spelled = told ∙ spelled;
       },
-      a.1,
-      own.1,
+      ap (λ (p : Party). p.listens) (sym party_is) ∙ a.1,
+      same ∙ ap (λ (p : Party). guest p g.listening g.told g.asker) party_is,
     )
 
 -- ---- the run id that was heard
@@ -169,8 +189,8 @@ identified start asker id questions g values unread not_yet_got bytes h [] held 
     nothing_heard start asker g id questions events tells.0
 identified start asker id questions g [] unread not_yet_got bytes h (r ∷ rs) held not_yet_come events left askable known quiet silent sent whole served put_out read tells =
     absurd (spelled_some r ((flat_map spelling rs ++ held) ++ not_yet_come) (sym served.0 ∙ put_out ∙ by_first r rs held not_yet_come))
-identified start asker id questions g (x ∷ xs) unread not_yet_got bytes h (r ∷ rs) held not_yet_come events left askable known quiet silent sent whole served put_out read
-    tells =
+identified start asker id questions g (x ∷ xs) unread not_yet_got bytes h (r ∷ rs) held not_yet_come events left askable known quiet silent sent whole served put_out
+    read tells =
     let voter = SentinelAt start.plan.place in
     let others_sent = flat_map message_bytes questions in
     let value_is = one_spelling id_value x others_sent ((flat_map spelling xs ++ unread) ++ not_yet_got) id_value_whole.plain whole.0.plain
@@ -180,7 +200,7 @@ identified start asker id questions g (x ∷ xs) unread not_yet_got bytes h (r �
     let first = served.3 in
     let others = served.4 in
     let later = served.6 in
-    let serves : Serves start served.0 next id_value first middle = subst (λ (f : Frame). Serves start served.0 next f first middle) (sym value_is.0) served.8 in
+    let serves : TellsClient start served.0 next id_value first middle = subst (λ (f : Frame). TellsClient start served.0 next f first middle) (sym value_is.0) served.8 in
     let reply = id_replied start served.0 next first middle (later.known ∙ known) (ap is_listening later.quiet ∙ quiet) (later.silent ∙ silent) serves in
     let own = me start.plan in
     let len = length-id_text own in

@@ -6,7 +6,9 @@ use Rattle.ballot_law.specs.declared.messages.Body.{Body}
 use Rattle.client_commands.specs.Lines.{value_at, Reads}
 use Rattle.client_commands.proofs.LineStreams.{as_frame, spelled_is_value, reads_longer, reads_join}
 use Rattle.courteous_sessions.specs.Epochs.{heard_as}
-use Rattle.courteous_sessions.specs.Visits.{Guest, channel_turn, Serves, ServesBy, ServesAll}
+use Rattle.courteous_sessions.specs.Visits.{Guest, channel_turn, ServesBy, ServesBesideBy, ServesIn, Tells, ServesAll}
+use Rattle.client_commands.specs.declared.protocols.Protocol.{Protocol}
+use Rattle.client_commands.specs.declared.protocols.Protocol.TheVariants.{Two, Three}
 use Rattle.node_texts.specs.Messages.MessageTexts.{message_bytes, body_frame}
 use Rattle.pubsub.specs.Answering.{Answer as ChannelAnswer, other, said as confirmed}
 use Rattle.resp2.specs.declared.framing.fault.Unread.{Unread}
@@ -28,8 +30,18 @@ current_by : (start : World) (now : ℕ) (answer : ChannelAnswer) (g : Guest) (v
 current_by start now other g value bytes h s = ap (λ (x : Guest). x.asker.current) s.2
 current_by start now (confirmed answers after) g value bytes h s = ap (λ (x : Guest). x.asker.current) s.3
 
-current_stays : (start : World) (now : ℕ) (g : Guest) (value : Frame) (bytes : List ℕ) (h : Guest) → Serves start now g value bytes h → h.asker.current ≡ g.asker.current
-current_stays start now g value bytes h s = current_by start now (channel_turn g.asker g.listening value) g value bytes h s
+current_beside : (start : World) (now : ℕ) (answer : ChannelAnswer) (g : Guest) (value : Frame) (bytes : List ℕ) (h : Guest) → ServesBesideBy start now answer g value bytes h
+    → h.asker.current ≡ g.asker.current
+current_beside start now other g value bytes h s = ap (λ (x : Guest). x.asker.current) s.2
+current_beside start now (confirmed answers after) g value bytes h s = ap (λ (x : Guest). x.asker.current) s.3
+
+current_in : (start : World) (now : ℕ) (protocol : Protocol) (g : Guest) (value : Frame) (bytes : List ℕ) (h : Guest) → ServesIn start now protocol g value bytes h
+    → h.asker.current ≡ g.asker.current
+current_in start now Two g value bytes h s = current_by start now (channel_turn g.asker g.listening value) g value bytes h s
+current_in start now Three g value bytes h s = current_beside start now (channel_turn g.asker g.listening value) g value bytes h s
+
+current_stays : (start : World) (now : ℕ) (g : Guest) (value : Frame) (bytes : List ℕ) (h : Guest) → Tells start now g value bytes h → h.asker.current ≡ g.asker.current
+current_stays start now g value bytes h t = current_in start now g.asker.protocol g value t.0 h t.1
 
 near_alike : (g h : Guest) (values : List Frame) → h.asker.current ≡ g.asker.current → AllByRecursion (IsNear g) values → AllByRecursion (IsNear h) values
 near_alike g h [] same near = tt

@@ -11,15 +11,16 @@ use Rattle.ballot_law.specs.declared.messages.NodeName.TheVariants.{SentinelAt}
 use Rattle.ballot_law.specs.declared.messages.Output.TheVariants.{Send}
 use Rattle.client_commands.specs.Courtesies.{is_stranger}
 use Rattle.courteous_sessions.specs.Epochs.{heard, heard_as}
-use Rattle.courteous_sessions.specs.Visits.{Guest, guest, Serves}
-use Rattle.courteous_sessions.proofs.Keeping.{own_as_before}
+use Rattle.courteous_sessions.specs.Visits.{Guest, guest, Tells as TellsClient}
+use Rattle.client_commands.specs.declared.protocols.Protocol.TheVariants.{Three}
+use Rattle.courteous_sessions.specs.Retelling.{first_word, second_word, shape_of_asked, is_null, IsTold}
 use Rattle.links.specs.declared.sessions.questions.Question.{Question}
 use Rattle.links.specs.Sessions.Links.{question_of, next_asked, listed, heard_of, Tells}
 use Rattle.links.specs.Sessions.LongValues.{told_value, IsLinkValue}
 use Rattle.links.proofs.SessionsLemmas.Values.{value_plain}
 use Rattle.node_texts.specs.Messages.Deliveries.{heard as delivery}
 use Rattle.node_texts.specs.Messages.MessageTexts.{message_bytes, body_frame}
-use Rattle.port_sessions.specs.Talks.{Responds}
+use Rattle.port_sessions.specs.Talks.{Party, party, Responds}
 use Rattle.pubsub.specs.Listening.{is_listening}
 use Rattle.resp2.specs.declared.command.CommandFault.{CommandFault}
 use Rattle.resp2.specs.Commands.{command_of}
@@ -32,6 +33,7 @@ use Rattle.sentinel_cell.specs.declared.view.View.{View}
 use Rattle.sentinel_cell.specs.Histories.{World, replay}
 use Rattle.process_laws.specs.Connections.{IsAskable, Fits, answer_body, port_answer, IsDelivered, AreDelivered}
 use Rattle.process_laws.specs.SharedConnections.{IsNear, ServedBeside, SharedAnswersAreDelivered, LaterQuestionsWait}
+use Rattle.process_laws.proofs.OwnCommands.{IsOwnAnswer, IsCopied, own_answer}
 use Rattle.process_laws.proofs.Joining.{spelled_some, first_asked, others_asked, by_first}
 use Rattle.process_laws.proofs.Turns.{replied_to, question_spelled}
 
@@ -60,17 +62,31 @@ later_delivered start asker v u more question event w later d =
 
 -- ---- the answer to a question
 
--- what a question is answered as without courtesies, and what is known then
+-- What a question is answered as without courtesies, which is told as it is where it is no null, and what is known then
 pub record RespondsAlike (start : World) (now : ℕ) (g : Guest) (question : Body) (bytes : List ℕ) (h : Guest) : Type 0 where
-  pub responds : Responds start now g.party (command_of (body_frame question)) bytes h.party
-  pub same : h ≡ guest h.party g.listening g.told g.asker
+  pub answer : List ℕ
+  pub q : Party
+  pub responds : Responds start now (party g.party.view None) (command_of (body_frame question)) answer q
+  pub told : is_null answer ≡ false → bytes ≡ answer
+  pub same : q.listens ≡ None → h ≡ guest q g.listening g.told g.asker
 
 -- by the command that a value is, which is heard as it is
-alike : (start : World) (now : ℕ) (g : Guest) (read : Result Command CommandFault) (command heard_command : Command) (bytes : List ℕ) (h : Guest)
-    → read ≡ Ok command → heard_command ≡ command → Responds start now g.party (Ok heard_command) bytes h.party → Responds start now g.party read bytes h.party
-alike start now g read command heard_command bytes h is near r =
-    subst (λ (c : Result Command CommandFault). Responds start now g.party c bytes h.party) (sym is)
-    (subst (λ (c : Command). Responds start now g.party (Ok c) bytes h.party) near r)
+alike : (start : World) (now : ℕ) (g : Guest) (question : Body) (command : Command) (bytes : List ℕ) (h : Guest) → command_of (body_frame question) ≡ Ok command
+    → heard g.asker.current command ≡ command → IsOwnAnswer start now g command bytes h → RespondsAlike start now g question bytes h
+alike start now g question command bytes h is near own =
+    let p = party g.party.view None in
+    record {
+      answer = own.answer;
+      q = own.q;
+      responds = subst (λ (c : Result Command CommandFault). Responds start now p c own.answer own.q) (ap Ok near ∙ sym is) own.responds;
+      told = own.told;
+      same = own.same;
+    }
+
+-- PING is heard as it is
+hears_all_pings : (current : Option ℕ) → heard current PingCommand ≡ PingCommand
+hears_all_pings None = refl
+hears_all_pings (Some epoch) = refl
 
 no_subscribe_ping : PingCommand ≢ Subscribe
 no_subscribe_ping e = let no : ⊥ = cc in no
@@ -82,32 +98,36 @@ by_ok : (one other : Command) → ◌≡◌ {A = Result Command CommandFault} (O
 by_ok one other e = cc
 
 pub responds_alike : (start : World) (now : ℕ) (g : Guest) (question : Body) (bytes : List ℕ) (h : Guest) → IsAskable question → is_stranger g.asker ≡ false
-    → is_listening g.listening ≡ false → IsNear g (body_frame question) → Serves start now g (body_frame question) bytes h → RespondsAlike start now g question bytes h
-responds_alike start now g Ping bytes h askable known quiet near serves =
+    → is_listening g.listening ≡ false → g.party.listens ≡ None → IsNear g (body_frame question) → TellsClient start now g (body_frame question) bytes h
+    → RespondsAlike start now g question bytes h
+responds_alike start now g Ping bytes h askable known quiet silent near serves =
     let value = body_frame Ping in
-    let own = own_as_before start now g h value PingCommand bytes known quiet no_subscribe_ping (known_too value PingCommand ping_read) serves in
-    record { responds = alike start now g (command_of value) PingCommand PingCommand bytes h ping_read refl own.0; same = own.1 }
-responds_alike start now g (Ask m addr epoch candidate) bytes h askable known quiet near serves =
+    alike start now g Ping PingCommand bytes h ping_read (hears_all_pings g.asker.current)
+    (own_answer start now g h value PingCommand bytes known quiet silent no_subscribe_ping (λ answer told is. is) (known_too value PingCommand ping_read) serves)
+responds_alike start now g (Ask m addr epoch candidate) bytes h askable known quiet silent near serves =
     let command = IsMasterDownByAddr addr epoch candidate in
     let value = body_frame (Ask m addr epoch candidate) in
     let read : command_of value ≡ Ok command = ask_again addr epoch candidate askable.0 askable.1 askable.2 in
-    let own = own_as_before start now g h value command bytes known quiet (λ e. let no : ⊥ = cc in no) (known_too value command read) serves in
+    let is = known_too value command read in
+    let copied : IsCopied value = λ answer told h.
+    subst (λ (r : Result Command CommandFault). IsTold Three (shape_of_asked r (first_word value) (second_word value)) answer told) is h in
     let same_command = by_ok (heard g.asker.current command) command (ap (heard_as g.asker.current) (sym read) ∙ (near ∙ read)) in
-    record { responds = alike start now g (command_of value) command (heard g.asker.current command) bytes h read same_command own.0; same = own.1 }
-responds_alike start now g (Answer n addr down leader voted) bytes h askable known quiet near serves = absurd askable
-responds_alike start now g (PingText is_error text) bytes h askable known quiet near serves = absurd askable
-responds_alike start now g InfoAsk bytes h askable known quiet near serves = absurd askable
-responds_alike start now g (InfoText info) bytes h askable known quiet near serves = absurd askable
-responds_alike start now g (Publish hello) bytes h askable known quiet near serves = absurd askable
-responds_alike start now g (HelloText hello) bytes h askable known quiet near serves = absurd askable
-responds_alike start now g (ReplicaOf to) bytes h askable known quiet near serves = absurd askable
-responds_alike start now g (HandOver heir) bytes h askable known quiet near serves = absurd askable
-responds_alike start now g (AddressAsk name) bytes h askable known quiet near serves = absurd askable
-responds_alike start now g (AddressAnswer shown) bytes h askable known quiet near serves = absurd askable
-responds_alike start now g (PortReply shown text) bytes h askable known quiet near serves = absurd askable
-responds_alike start now g RoleAsk bytes h askable known quiet near serves = absurd askable
-responds_alike start now g (RoleText role) bytes h askable known quiet near serves = absurd askable
-responds_alike start now g Done bytes h askable known quiet near serves = absurd askable
+    alike start now g (Ask m addr epoch candidate) command bytes h read same_command
+    (own_answer start now g h value command bytes known quiet silent (λ e. let no : ⊥ = cc in no) copied is serves)
+responds_alike start now g (Answer n addr down leader voted) bytes h askable known quiet silent near serves = absurd askable
+responds_alike start now g (PingText is_error text) bytes h askable known quiet silent near serves = absurd askable
+responds_alike start now g InfoAsk bytes h askable known quiet silent near serves = absurd askable
+responds_alike start now g (InfoText info) bytes h askable known quiet silent near serves = absurd askable
+responds_alike start now g (Publish hello) bytes h askable known quiet silent near serves = absurd askable
+responds_alike start now g (HelloText hello) bytes h askable known quiet silent near serves = absurd askable
+responds_alike start now g (ReplicaOf to) bytes h askable known quiet silent near serves = absurd askable
+responds_alike start now g (HandOver heir) bytes h askable known quiet silent near serves = absurd askable
+responds_alike start now g (AddressAsk name) bytes h askable known quiet silent near serves = absurd askable
+responds_alike start now g (AddressAnswer shown) bytes h askable known quiet silent near serves = absurd askable
+responds_alike start now g (PortReply shown text) bytes h askable known quiet silent near serves = absurd askable
+responds_alike start now g RoleAsk bytes h askable known quiet silent near serves = absurd askable
+responds_alike start now g (RoleText role) bytes h askable known quiet silent near serves = absurd askable
+responds_alike start now g Done bytes h askable known quiet silent near serves = absurd askable
 
 -- ---- the whole connection
 
@@ -139,11 +159,14 @@ delivered start asker (a ∷ questions) g (x ∷ xs) unread not_yet_got bytes h 
     let others = served.4 in
     let later = served.6 in
     let near : IsNear next (body_frame a) = subst (IsNear next) (sym question_is.0) served.7 in
-    let serves : Serves start now next (body_frame a) first middle = subst (λ (f : Frame). Serves start now next f first middle) (sym question_is.0) served.8 in
-    let alike = responds_alike start now next a first middle askable.0 (later.known ∙ known) (ap is_listening later.quiet ∙ quiet) near serves in
-    let reply = replied_to start asker now next.party a first middle.party askable.0 (later.silent ∙ silent) alike.responds in
+    let serves : TellsClient start now next (body_frame a) first middle = subst (λ (f : Frame). TellsClient start now next f first middle) (sym question_is.0) served.8 in
+    let silent_then : next.party.listens ≡ None = later.silent ∙ silent in
+    let alike = responds_alike start now next a first middle askable.0 (later.known ∙ known) (ap is_listening later.quiet ∙ quiet) silent_then near serves in
+    let reply = replied_to start asker now (party next.party.view None) a alike.answer alike.q askable.0 refl alike.responds in
+    let same : middle ≡ guest alike.q next.listening next.told next.asker = alike.same reply.1 in
+    let first_is : first ≡ spelling reply.0.value = alike.told reply.0.some ∙ reply.0.spelled in
     let reply_bytes : spelling reply.0.value ++ others ≡ spelling r ++ ((flat_map spelling rs ++ held) ++ not_yet_come) =
-    ap (λ (t : List ℕ). t ++ others) (sym reply.0.spelled) ∙ sym served.5 ∙ put_out ∙ by_first r rs held not_yet_come in
+    ap (λ (t : List ℕ). t ++ others) (sym first_is) ∙ sym served.5 ∙ put_out ∙ by_first r rs held not_yet_come in
     let reply_is = one_spelling reply.0.value r others ((flat_map spelling rs ++ held) ++ not_yet_come) reply.0.plain (value_plain r read.0) reply_bytes in
     let next_is : next_asked false (question_of a ∷ map question_of questions) ≡ Some (tells.0, tells.1) = tells.4 in
     let same_question : question_of a ≡ tells.0 = first_asked (question_of a) tells.0 (map question_of questions) tells.1 next_is in
@@ -152,13 +175,16 @@ delivered start asker (a ∷ questions) g (x ∷ xs) unread not_yet_got bytes h 
     ap (λ (k : Question). heard_of voter k (told_value reply.0.value)) same_question ∙ ap (λ (f : Frame). heard_of voter tells.0 (told_value f)) reply_is.0 ∙ tells.5 in
     let event = reply.0.hears tells.2 heard_it in
     let all : events ≡ event.0 ∷ tells.3 = tells.6 ∙ ap (λ (e : Option Event). listed e ++ tells.3) event.1 in
-    let known_then : is_stranger middle.asker ≡ false = ap (λ (x : Guest). is_stranger x.asker) alike.same ∙ (later.known ∙ known) in
-    let quiet_then : is_listening middle.listening ≡ false = ap (λ (x : Guest). is_listening x.listening) alike.same ∙ (ap is_listening later.quiet ∙ quiet) in
-    let after = delivered start asker questions middle xs unread not_yet_got others h rs held not_yet_come tells.3 left askable.1 known_then quiet_then reply.1 question_is.1
-    whole.1 served.9 reply_is.1 read.1
+    let known_then : is_stranger middle.asker ≡ false = ap (λ (x : Guest). is_stranger x.asker) same ∙ (later.known ∙ known) in
+    let quiet_then : is_listening middle.listening ≡ false = ap (λ (x : Guest). is_listening x.listening) same ∙ (ap is_listening later.quiet ∙ quiet) in
+    let silenced : middle.party.listens ≡ None = ap (λ (x : Guest). x.party.listens) same ∙ reply.1 in
+    let others_delivered = delivered start asker questions middle xs unread not_yet_got others h rs held not_yet_come tells.3 left askable.1 known_then quiet_then silenced
+    question_is.1 whole.1 served.9 reply_is.1 read.1
     (subst (λ (k : List Question). Tells voter false k rs tells.3 left) same_others tells.7) in
-    let here = later_delivered start asker g.party.view next.party.view later.more a event.0 middle.party.view later.front event.2 in
-    subst (λ (list : List Event). AreDelivered start asker g.party.view (a ∷ questions) list) (sym all) (middle.party.view, here, after)
+    let after : AreDelivered start asker alike.q.view questions tells.3 =
+    subst (λ (w : View). AreDelivered start asker w questions tells.3) (ap (λ (x : Guest). x.party.view) same) others_delivered in
+    let here = later_delivered start asker g.party.view next.party.view later.more a event.0 alike.q.view later.front event.2 in
+    subst (λ (list : List Event). AreDelivered start asker g.party.view (a ∷ questions) list) (sym all) (alike.q.view, here, after)
 
 pub shared_answers_are_delivered : SharedAnswersAreDelivered
 shared_answers_are_delivered start asker g questions events c =

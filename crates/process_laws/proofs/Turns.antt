@@ -1,8 +1,9 @@
 -- What a port answers to one question, and what the link hears for it.
-use Rattle.std.proofs.Common.{◌≡◌, ℕ, ◌≤◌, Bool, false, not, ◌&&◌, List, [], ◌∷◌, ◌++◌, refl, ap, sym, ◌∙◌, subst, arith, Option, Some, None, Result, Ok}
-use Rattle.std.specs.Prelude.{codes}
+use Rattle.std.proofs.Common.{◌≡◌, ◌≢◌, ℕ, ◌≤◌, Bool, true, false, not, ◌&&◌, ◌||◌, List, [], ◌∷◌, ◌++◌, refl, ap, sym, ◌∙◌, subst, arith, Option, Some, None, Result, Ok}
+use Rattle.std.specs.Prelude.{bytes_eq, codes}
 use Rattle.std.specs.List.{flat_map}
 use Rattle.std.proofs.lemmas.List.{append-nil}
+use Rattle.std.proofs.lemmas.Slice.Eq.{bytes_eq-Decides}
 use Rattle.ballot_law.specs.declared.addresses.Addr.{Addr}
 use Rattle.ballot_law.specs.declared.addresses.RunId.{RunId}
 use Rattle.ballot_law.specs.declared.cards.TheConstants.{MAX_EPOCH}
@@ -18,6 +19,7 @@ use Rattle.ballot_law.specs.declared.messages.NodeName.TheVariants.{SentinelAt}
 use Rattle.ballot_law.specs.declared.messages.Output.TheVariants.{Send}
 use Rattle.ballot_law.specs.Clocks.{clock}
 use Rattle.ballot_law.specs.PingReplies.{reply_of}
+use Rattle.courteous_sessions.specs.Retelling.{is_null}
 use Rattle.node_texts.specs.Messages.Deliveries.{heard}
 use Rattle.node_texts.specs.Messages.MessageTexts.{message_bytes, body_frame, answer_frame, words_frame, IsWritable}
 use Rattle.sentinel_core.specs.Serving.Serving.{output_bytes}
@@ -26,7 +28,8 @@ use Rattle.resp2.specs.declared.command.CommandFault.{CommandFault}
 use Rattle.resp2.specs.Commands.{command_of}
 use Rattle.resp2.proofs.Asks.{ask_again, ask_is_frame}
 use Rattle.resp2.proofs.AskFrames.{short_array}
-use Rattle.resp2.specs.Framing.Frame.{Frame, simple, spelling, IsPlain, IsFrame}
+use Rattle.resp2.proofs.FramingLemmas.Streams.{one_spelling}
+use Rattle.resp2.specs.Framing.Frame.{Frame, simple, null_bulk, null_items, spelling, IsPlain, IsFrame}
 use Rattle.sentinel_cell.specs.declared.entry.Entry.{Entry}
 use Rattle.sentinel_cell.specs.declared.entry.Outcome.{Outcome}
 use Rattle.sentinel_cell.specs.declared.entry.Outcome.TheVariants.{Stored}
@@ -113,13 +116,26 @@ answer_of plan now addr epoch candidate (Some m) core = answer_at plan m now add
 
 -- ---- the reply to a question
 
--- the bytes are one value, and what the link hears for it is the delivery of the answer
+-- the bytes are one value, no null, and what the link hears for it is the delivery of the answer
 pub record Reply (start : World) (asker : NodeName) (v : View) (question : Body) (bytes : List ℕ) (w : View) : Type 0 where
   pub value : Frame
   pub spelled : bytes ≡ spelling value
   pub plain : IsPlain value
+  pub some : is_null bytes ≡ false
   pub hears : (got : Option Event) → heard_of (SentinelAt start.plan.place) (question_of question) (told_value value) ≡ Ok got
       → (event : Event) × (got ≡ Some event) × IsDelivered start asker v question event w
+
+same_frame : (f g : Frame) → IsPlain f → IsPlain g → bytes_eq (spelling f) (spelling g) ≡ true → f ≡ g
+same_frame f g one other h = (one_spelling f g [] [] one other (ap (λ (t : List ℕ). t ++ []) ((bytes_eq-Decides (spelling f) (spelling g)).0 h))).0
+
+-- what is no null is spelled otherwise
+pub no_null : (f : Frame) → IsPlain f → f ≢ null_bulk → f ≢ null_items → is_null (spelling f) ≡ false
+no_null f plain first second = neither (bytes_eq (spelling f) (spelling null_bulk)) (bytes_eq (spelling f) (spelling null_items)) refl refl
+  where
+    neither : (a b : Bool) → bytes_eq (spelling f) (spelling null_bulk) ≡ a → bytes_eq (spelling f) (spelling null_items) ≡ b → (a || b) ≡ false
+    neither true b is_bulk is_items = absurd (first (same_frame f null_bulk plain tt is_bulk))
+    neither false true is_bulk is_items = absurd (second (same_frame f null_items plain tt is_items))
+    neither false false is_bulk is_items = refl
 
 ask_reply : (start : World) (asker : NodeName) (now : ℕ) (v : View) (m : ℕ) (addr : Addr) (epoch : ℕ) (candidate : Option RunId) (bytes : List ℕ) (w : View)
     → Turned start now v (IsMasterDownByAddr addr epoch candidate) bytes w → Reply start asker v (Ask m addr epoch candidate) bytes w
@@ -129,10 +145,14 @@ ask_reply start asker now v m addr epoch candidate bytes w t =
     let a = answer_of world.plan (clock now) addr epoch candidate (master_with_card core.kept.masters addr) core in
     let most : a.epoch ≤ MAX_EPOCH = subst IsWritable a.is_it t.writable in
     let voter = SentinelAt start.plan.place in
+    let spelled : bytes ≡ spelling (answer_frame a.down a.leader a.epoch) = t.bytes_are ∙ ap message_bytes a.is_it in
+    let value = answer_frame a.down a.leader a.epoch in
+    let plain : IsPlain value = answer_plain a.down a.leader a.epoch most in
     record {
-      value = answer_frame a.down a.leader a.epoch;
-      spelled = t.bytes_are ∙ ap message_bytes a.is_it;
-      plain = answer_plain a.down a.leader a.epoch most;
+      value = value;
+      spelled = spelled;
+      some = ap is_null spelled ∙ no_null value plain (λ e. let no : ⊥ = cc in no) (λ e. let no : ⊥ = cc in no);
+      plain = plain;
       hears = λ got e.
           let read = answer_heard voter m addr a.down a.leader a.epoch got most e in (
             read.0,
@@ -162,6 +182,7 @@ ping_reply start asker now v bytes w t =
     record {
       value = simple (codes "PONG");
       spelled = t.bytes_are;
+      some = ap is_null t.bytes_are;
       plain = t.writable;
       hears = λ got e. (
         event,

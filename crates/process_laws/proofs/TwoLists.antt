@@ -16,6 +16,8 @@ use Rattle.ballot_law.specs.Words.{hex}
 use Rattle.ballot_law.proofs.Scripts.{only_first, becomes}
 use Rattle.failover_states.specs.Replicas.{told, is_due, is_next}
 use Rattle.sentinel_conf.specs.Rewritten.{IsKeptPart}
+use Rattle.sentinel_rules.specs.States.{is_unrefused}
+use Rattle.sentinel_rules.specs.Ticks.{hands_over}
 use Rattle.sentinel_rules.specs.Worked.{id_a, id_b, local}
 use Rattle.process_laws.specs.Actions.{Action, Process, AreActions, actions_after, all_sent, at_first}
 use Rattle.process_laws.specs.Differing.{DifferInNodes}
@@ -27,7 +29,7 @@ use Rattle.process_laws.proofs.TwoProcesses.{first_answer, vote_given, hello_pub
 
 -- what is unfolded to compute texts and failovers that are written out
 unfoldable on_literals : ⊤
-unfolding told is_due is_next is_utf8 chars encode digits hex
+unfolding is_unrefused hands_over told is_due is_next is_utf8 chars encode digits hex
 on_literals = tt
 
 shown : IsShown

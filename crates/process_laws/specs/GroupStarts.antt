@@ -15,10 +15,12 @@ use Rattle.sentinel_rules.specs.declared.profiles.Profile.{Profile}
 use Rattle.process_laws.specs.Actions.{IsOpened, at_first, opened_by}
 use Rattle.process_laws.specs.Differing.{DifferInNodes}
 
--- at the start this file opens the Sentinel at this place, of any profile, at any reading of the clock
+-- at the start this file opens the Sentinel at this place, of any profile, with any periods for which masters may load their data, at any reading of the clock
 abbrev pub OpensAt : Roster → Group → (i : ℕ) → ConfPlan → Type 0
 OpensAt roster start i conf =
-    (i < size roster) × ((profile : Profile) (now : ℕ) → IsOpened roster i (at_first start i).file now (opened_by (record { conf = conf; place = i; profile = profile }) now))
+    (i < size roster)
+    × ((profile : Profile) (reboots : List ℕ) (now : ℕ) →
+    IsOpened roster i (at_first start i).file now (opened_by (record { conf = conf; place = i; profile = profile; reboots = reboots }) now))
 
 -- files of one Sentinel each open it, and each of the roster's Sentinels is opened by one of them
 pub record AreOpening (roster : Roster) (start : Group) (files : List NamedConf) : Type 0 where

@@ -7,7 +7,7 @@ use Rattle.ballot_law.specs.declared.messages.NodeName.{NodeName}
 use Rattle.ballot_law.specs.declared.messages.NodeName.TheVariants.{SentinelAt}
 use Rattle.client_commands.specs.Courtesies.{is_stranger}
 use Rattle.courteous_sessions.specs.Epochs.{heard_as}
-use Rattle.courteous_sessions.specs.Visits.{Guest, Serves, IsAnswered}
+use Rattle.courteous_sessions.specs.Visits.{Guest, IsAnswered, Tells as TellsClient}
 use Rattle.links.specs.declared.sessions.questions.Question.{Question}
 use Rattle.links.specs.Sessions.Links.{question_of, Tells, IsHeard}
 use Rattle.links.specs.Sessions.LongValues.{LinkParts}
@@ -38,10 +38,10 @@ abbrev pub ServedBeside : World → Guest → List Frame → List ℕ → Guest 
 ServedBeside start g [] bytes h = (bytes ≡ []) × (h ≡ g)
 ServedBeside start g (value ∷ values) bytes h =
     (now : ℕ) × (next : Guest) × (middle : Guest) × (first : List ℕ) × (rest : List ℕ) × (bytes ≡ first ++ rest)
-    × IsLater g next × IsNear next value × Serves start now next value first middle × ServedBeside start middle values rest h
+    × IsLater g next × IsNear next value × TellsClient start now next value first middle × ServedBeside start middle values rest h
 
--- The link asked these questions of a port where no password is owed any more; the port got a first part of their bytes, and served the values in it; the link got a
--- first part of the bytes that were put out, and heard the values in it
+-- The link asked these questions of a port where no password is owed any more, by whichever protocol the connection speaks; the port got a first part of their bytes, and
+-- served the values in it; the link got a first part of the bytes that were put out, and heard the values in it
 pub record IsConnectedBeside (start : World) (g : Guest) (questions : List Body) (events : List Event) : Type 0 where
   pub askable : AllByRecursion IsAskable questions
   pub known : is_stranger g.asker ≡ false

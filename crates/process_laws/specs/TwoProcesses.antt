@@ -75,6 +75,7 @@ plan_at place id kept =
           };
       place = place;
       profile = Strict;
+      reboots = [];
     }
 
 abbrev pub opens : (place : ℕ) → RunId → Kept → (now : ℕ) → Action

@@ -6,8 +6,8 @@ ghost use Rattle.process_laws.specs.SharedConnections.{SharedAnswersAreDelivered
 
 /// What `law_answers_are_delivered` says of a port without courtesies and with one connection holds also of a port with
 /// courtesies, as that of Redis's profile, once no password is owed on the connection: whatever other connections of
-/// its thread do to the seat between two values, and whatever the connection is told meanwhile. No question may be for
-/// a vote in an epoch that is too far above the one that the connection was told.
+/// its thread do to the seat between two values, whatever the connection is told meanwhile, and whichever protocol it
+/// speaks. No question may be for a vote in an epoch that is too far above the one that the connection was told.
 pub fn law_shared_answers_are_delivered()
     ensures { SharedAnswersAreDelivered }
 {}

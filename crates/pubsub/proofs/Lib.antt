@@ -1,4 +1,5 @@
 pub mod Bytes
+pub mod Finding
 pub mod Fitting
 pub mod Lines
 pub mod Listed

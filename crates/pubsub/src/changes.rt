@@ -9,6 +9,7 @@ ghost use Rattle.pubsub.specs.Confirming.{added, removed, emptied, all_removed, 
 use crate::confirmations::{add_confirmation, add_unnamed};
 use crate::fault::ChannelFault;
 use crate::kind::Kind;
+use crate::name::Name;
 use crate::names::NameList;
 use ballot_law::{NoMemory, Text};
 use resp2::OutText;
@@ -92,7 +93,7 @@ fn remove_each(
 }
 
 /// Adds the confirmations that these names are removed, from the first to the last.
-fn add_emptied(kind: Kind, names: &[Text], others: usize, out: &mut OutText) -> Result<(), NoMemory>
+fn add_emptied(kind: Kind, names: &[Name], others: usize, out: &mut OutText) -> Result<(), NoMemory>
     requires few { length names.now ≤ NAMES_MAX }
     requires others { others ≤ NAMES_MAX }
     ensures { OnOk result (out.new ≡ out.old ++ spellings (emptied kind others names.now)) }

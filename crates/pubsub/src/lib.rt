@@ -14,6 +14,7 @@ mod fault;
 mod globs;
 mod kind;
 mod laws;
+mod name;
 mod names;
 mod subscriptions;
 mod telling;
@@ -28,5 +29,6 @@ pub use laws::{
     law_answers_are_values, law_nothing_else_is_told, law_own_commands,
     law_subscriptions_stay_sound,
 };
+pub use name::Name;
 pub use names::{NAME_BYTES_MAX, NAMES_MAX};
 pub use subscriptions::Subscriptions;

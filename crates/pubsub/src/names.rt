@@ -4,9 +4,10 @@ ghost use Rattle.std.specs.Prelude.{◌≡◌, ◌≤◌, [], length, take};
 ghost use Rattle.pubsub.specs.declared.names.TheConstants.{NAMES_MAX, NAME_BYTES_MAX};
 ghost use Rattle.pubsub.specs.Listening.{holds, without_name, IsAdded};
 
+use crate::channel::Channel;
 use crate::fault::ChannelFault;
 use crate::kind::Kind;
-use ballot_law::Text;
+use crate::name::Name;
 use std::alloc::Global;
 use std::marker::Model;
 
@@ -19,7 +20,7 @@ pub const NAME_BYTES_MAX: usize = 256;
 /// Names in the order in which they were added, at most `NAMES_MAX`. Contracts see the list of them.
 #[derive(Drop)]
 pub(crate) struct NameList {
-    names: Vec<Text>,
+    names: Vec<Name>,
 }
 
 impl Model for NameList {
@@ -52,7 +53,7 @@ impl NameList {
     }
 
     /// The names, in order.
-    pub(crate) fn as_slice(&self) -> &[Text]
+    pub(crate) fn as_slice(&self) -> &[Name]
         ensures same { result.now ≡ self.now }
         ensures few { length self.now ≤ NAMES_MAX }
     {
@@ -64,6 +65,15 @@ impl NameList {
         ensures { result ≡ holds self.now name.now }
     {
         self.names.iter().any(|one| one.as_slice() == name)
+    }
+
+    /// Finds out of each which matches this channel, as a pattern, where that wasn't found out yet.
+    pub(crate) fn find_out(&mut self, channel: Channel)
+        ensures { self.new ≡ self.old }
+    {
+        for name in self.names.iter_mut() {
+            name.find_out(channel);
+        }
     }
 
     /// Drops the names after the first `count`.
@@ -100,7 +110,7 @@ impl NameList {
         if self.names.len() >= NAMES_MAX {
             return Err(kind.too_many());
         }
-        let name = Text::from_slice(alloc, name)?;
+        let name = Name::of(alloc, name)?;
         if self.names.push(name).is_err() {
             return Err(ChannelFault::NoMemory);
         }

@@ -10,9 +10,10 @@ ghost use Rattle.pubsub.specs.Answering.{names_of, others_of, with_these};
 ghost use Rattle.pubsub.specs.Telling.{channel_name, hears, told};
 
 use crate::changes::{add_all, remove};
-use crate::channel::Event;
+use crate::channel::{Channel, Event};
 use crate::fault::ChannelFault;
 use crate::kind::Kind;
+use crate::name::Name;
 use crate::names::NameList;
 use crate::telling::{add_for_patterns, add_message, is_matched};
 use ballot_law::{NoMemory, Text};
@@ -55,7 +56,7 @@ impl Subscriptions {
     }
 
     /// The channels, in order.
-    pub fn channels(&self) -> &[Text]
+    pub fn channels(&self) -> &[Name]
         ensures same { result.now ≡ self.now.channels }
         ensures few { length self.now.channels ≤ NAMES_MAX }
     {
@@ -63,7 +64,7 @@ impl Subscriptions {
     }
 
     /// The patterns, in order.
-    pub fn patterns(&self) -> &[Text]
+    pub fn patterns(&self) -> &[Name]
         ensures same { result.now ≡ self.now.patterns }
         ensures few { length self.now.patterns ≤ NAMES_MAX }
     {
@@ -89,6 +90,14 @@ impl Subscriptions {
         ensures { result ≡ hears self.now channel.now }
     {
         self.channels.holds(channel) || is_matched(self.patterns.as_slice(), channel)
+    }
+
+    /// Finds out which of the patterns match this channel, each of them once for as long as it stands: what the
+    /// connection is told on the channel from then on matches none of them anew.
+    pub fn find_out(&mut self, channel: Channel)
+        ensures { self.new ≡ self.old }
+    {
+        self.patterns.find_out(channel);
     }
 
     /// SUBSCRIBE of these channels: has `out` be the confirmations, one for each name, in order. A channel that the

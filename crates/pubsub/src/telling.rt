@@ -6,8 +6,8 @@ ghost use Rattle.pubsub.specs.Globs.{matches};
 ghost use Rattle.resp2.specs.Framing.Frame.{bulk, spelling, spellings};
 ghost use Rattle.pubsub.specs.Telling.{message, pattern_message, told_for};
 
-use crate::globs::is_match;
-use ballot_law::{NoMemory, Text};
+use crate::name::Name;
+use ballot_law::NoMemory;
 use resp2::{OutText, push_bulk};
 
 /// Adds two words after a text.
@@ -55,7 +55,7 @@ fn add_pattern_message(
 /// Adds what is told for each pattern that matches the channel.
 pub(crate) fn add_for_patterns(
     out: &mut OutText,
-    patterns: &[Text],
+    patterns: &[Name],
     channel: &[u8],
     text: &[u8],
 ) -> Result<(), NoMemory>
@@ -63,7 +63,7 @@ pub(crate) fn add_for_patterns(
 {
     let mut rest = patterns;
     while let [pattern, more @ ..] = rest {
-        if is_match(pattern.as_slice(), channel) {
+        if pattern.is_match(channel) {
             add_pattern_message(out, pattern.as_slice(), channel, text)?;
         }
         rest = more;
@@ -72,12 +72,12 @@ pub(crate) fn add_for_patterns(
 }
 
 /// Whether one of the patterns matches the channel.
-pub(crate) fn is_matched(patterns: &[Text], channel: &[u8]) -> bool
+pub(crate) fn is_matched(patterns: &[Name], channel: &[u8]) -> bool
     ensures { result ≡ list_any (λ pattern. matches pattern channel.now) patterns.now }
 {
     let mut rest = patterns;
     while let [pattern, more @ ..] = rest {
-        if is_match(pattern.as_slice(), channel) {
+        if pattern.is_match(channel) {
             return true;
         }
         rest = more;

@@ -8,7 +8,7 @@ use crate::told::{Told, Unplayed};
 use ballot_law::{Addr, Name, RunId, Text};
 use client_commands::{
     ClientEntry, ClientInfo, CommandReader, Courtesy, Figures, MonitoredMaster, PortFacts,
-    courtesy_of, info,
+    Protocol, courtesy_of, info,
 };
 use resp2::{FrameFault, OutText, Value, write_value};
 use std::alloc::Global;
@@ -36,6 +36,7 @@ fn client(
         address: Text::from_slice(alloc, address)?,
         local: Text::from_slice(alloc, b"127.0.0.1:26379")?,
         name: Text::from_slice(alloc, b"other")?,
+        protocol: Protocol::Two,
         came: 60_000,
         heard: 99_500,
         channels,
@@ -83,6 +84,7 @@ fn asker(alloc: Global, name: &[u8], listens: bool) -> Result<ClientInfo, Unplay
     Ok(ClientInfo {
         id: 21,
         name: Text::from_slice(alloc, name)?,
+        protocol: Protocol::Two,
         listens,
         masters: mymaster(alloc)?,
         password: None,
@@ -122,6 +124,9 @@ fn tell(
     tell_kind(kind, out.as_slice(), told)?;
     if asker.password.is_some() && asker.admitted {
         told.word("admitted")?;
+    }
+    if !asker.protocol.is_two() {
+        told.word("speaks-3")?;
     }
     for place in asker.port.killed.as_slice() {
         told.word("killed")?;

@@ -23,7 +23,7 @@ pub(crate) struct Plans {
 /// The plan of a file.
 fn plan_of(alloc: Global, file: &[u8]) -> Result<Box<Plan>, Unplayed> {
     match read(alloc, file) {
-        Ok(conf) => Ok(Box::new(alloc, Plan::new(conf, Profile::Strict))?),
+        Ok(conf) => Ok(Box::new(alloc, Plan::new(conf, Profile::Strict, Vec::new(alloc)))?),
         Err(_) => Err(Unplayed::NoMemory),
     }
 }

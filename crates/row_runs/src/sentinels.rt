@@ -42,8 +42,24 @@ pub(crate) struct Lone {
     ghost ready: { is_ready ≡ true → sentinel.value.phase ≡ Ready },
 }
 
-/// A Sentinel of this profile that opens with this file, at this reading of its clock.
-fn opened(alloc: Global, file: &[u8], profile: Profile, now: u64) -> Result<Box<Sentinel>, Unplayed>
+/// By which rules a Sentinel works, and for how many milliseconds its first master may load its data after a restart; 0
+/// is for ever.
+#[derive(Clone, Copy)]
+struct Rules {
+    profile: Profile,
+    reboot_ms: u64,
+}
+
+/// Those of this profile, by which a master may load its data for ever.
+fn rules_of(profile: Profile) -> Rules {
+    Rules {
+        profile,
+        reboot_ms: 0,
+    }
+}
+
+/// A Sentinel of these rules that opens with this file, at this reading of its clock.
+fn opened(alloc: Global, file: &[u8], rules: Rules, now: u64) -> Result<Box<Sentinel>, Unplayed>
     ensures { IfOk result (λ sentinel. sentinel.value.phase ≡ Ready) }
 {
     let conf = match read(alloc, file) {
@@ -51,7 +67,9 @@ fn opened(alloc: Global, file: &[u8], profile: Profile, now: u64) -> Result<Box<
         Err(fault) if fault.kind == ConfKind::NoMemory => return Err(Unplayed::NoMemory),
         Err(_) => return Err(Unplayed::WrongWords),
     };
-    let Ok(sentinel) = Sentinel::open_as(alloc, conf, profile, now) else {
+    let mut reboots = Vec::new(alloc);
+    reboots.push(rules.reboot_ms)?;
+    let Ok(sentinel) = Sentinel::open_with(alloc, conf, rules.profile, reboots, now) else {
         return Err(Unplayed::NoMemory);
     };
     Ok(Box::new(alloc, sentinel)?)
@@ -59,9 +77,9 @@ fn opened(alloc: Global, file: &[u8], profile: Profile, now: u64) -> Result<Box<
 
 impl Lone {
     /// Opens it with this file, at this reading of its clock, with an outbox without room.
-    fn open(alloc: Global, file: &[u8], profile: Profile, now: u64) -> Result<Lone, Unplayed> {
+    fn open(alloc: Global, file: &[u8], rules: Rules, now: u64) -> Result<Lone, Unplayed> {
         let store = CountedFile::holding(alloc, file)?;
-        let sentinel = opened(alloc, file, profile, now)?;
+        let sentinel = opened(alloc, file, rules, now)?;
         let card = sentinel.address_now(0);
         Ok(Lone {
             alloc,
@@ -76,18 +94,20 @@ impl Lone {
 
     /// Opens a strict one in a box.
     pub(crate) fn boxed(alloc: Global, file: &[u8], now: u64) -> Result<Box<Lone>, Unplayed> {
-        Lone::boxed_as(alloc, file, Profile::Strict, now)
+        Lone::boxed_as(alloc, file, rules_of(Profile::Strict), now)
     }
 
-    /// Opens one of this profile in a box.
-    fn boxed_as(
-        alloc: Global,
-        file: &[u8],
-        profile: Profile,
-        now: u64,
-    ) -> Result<Box<Lone>, Unplayed> {
-        let lone = Lone::open(alloc, file, profile, now)?;
+    /// Opens one of these rules in a box.
+    fn boxed_as(alloc: Global, file: &[u8], rules: Rules, now: u64) -> Result<Box<Lone>, Unplayed> {
+        let lone = Lone::open(alloc, file, rules, now)?;
         Ok(Box::new(alloc, lone)?)
+    }
+
+    /// Opens one of these rules in a box, with room for the outputs of an input.
+    fn ready(alloc: Global, file: &[u8], rules: Rules, now: u64) -> Result<Box<Lone>, Unplayed> {
+        let mut lone = Lone::boxed_as(alloc, file, rules, now)?;
+        lone.make_room()?;
+        Ok(lone)
     }
 
     /// Makes room in its outbox for the outputs of any one input.
@@ -122,8 +142,12 @@ impl Lone {
     fn start_again(&mut self, now: u64) -> Result<(), Unplayed> {
         self.is_ready = false;
         self.sentinel.stop();
-        let profile = self.sentinel.plan().profile();
-        self.sentinel = opened(self.alloc, self.file.text(), profile, now)?;
+        let plan = self.sentinel.plan();
+        let rules = Rules {
+            profile: plan.profile(),
+            reboot_ms: plan.reboot_ms(0),
+        };
+        self.sentinel = opened(self.alloc, self.file.text(), rules, now)?;
         self.is_ready = true;
         self.outbox.drop_held();
         self.card = self.sentinel.address_now(0);
@@ -395,15 +419,21 @@ impl Sentinels {
     ) -> Result<(), Unplayed> {
         match (call, words) {
             ("open", [file, now]) => {
-                let mut lone = Lone::boxed(self.alloc, file, number(now)?)?;
-                lone.make_room()?;
-                self.lone = Some(lone);
+                let rules = rules_of(Profile::Strict);
+                self.lone = Some(Lone::ready(self.alloc, file, rules, number(now)?)?);
                 told.ok()
             }
             ("open-as-redis", [file, now]) => {
-                let mut lone = Lone::boxed_as(self.alloc, file, Profile::Redis, number(now)?)?;
-                lone.make_room()?;
-                self.lone = Some(lone);
+                let rules = rules_of(Profile::Redis);
+                self.lone = Some(Lone::ready(self.alloc, file, rules, number(now)?)?);
+                told.ok()
+            }
+            ("open-with-reboot", [file, now, ms]) => {
+                let rules = Rules {
+                    profile: Profile::Redis,
+                    reboot_ms: number(ms)?,
+                };
+                self.lone = Some(Lone::ready(self.alloc, file, rules, number(now)?)?);
                 told.ok()
             }
             _ => {

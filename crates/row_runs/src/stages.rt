@@ -67,6 +67,7 @@ impl Stage {
             | "endings"
             | "listeners"
             | "refused_memory_of_sessions"
+            | "resp3"
             | "seats"
             | "single_answers"
             | "streams" => { Stage::Conversations(Box::new(alloc, Conversations::new(alloc))?) }

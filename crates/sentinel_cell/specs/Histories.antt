@@ -49,6 +49,7 @@ no_plan =
       conf = record { kept_lines = []; roster = record { sentinels = []; masters = [] }; id = no_id; port = 0; settings = []; kept = no_kept_part };
       place = 0;
       profile = Strict;
+      reboots = [];
     }
 
 abbrev pub no_core : Core

@@ -91,6 +91,7 @@ impl Sentinel {
     pub fn open(alloc: Global, conf: Conf, now: u64) -> Result<Sentinel, OpenFault>
         ensures plan { IfOk result (λ sentinel. sentinel.plan.conf ≡ conf) }
         ensures profile { IfOk result (λ sentinel. sentinel.plan.profile ≡ Profile.Strict) }
+        ensures reboots { IfOk result (λ sentinel. sentinel.plan.reboots ≡ []) }
         ensures place { IfOk result (λ sentinel. (sentinel.plan.place < group_size sentinel.plan) × (me sentinel.plan ≡ conf.id)) }
         ensures core { IfOk result (λ sentinel. sentinel.core ≡ opened sentinel.plan now) }
         ensures stored { IfOk result (λ sentinel. sentinel.stored ≡ conf.kept) }
@@ -108,6 +109,28 @@ impl Sentinel {
     ) -> Result<Sentinel, OpenFault>
         ensures plan { IfOk result (λ sentinel. sentinel.plan.conf ≡ conf) }
         ensures profile { IfOk result (λ sentinel. sentinel.plan.profile ≡ profile) }
+        ensures reboots { IfOk result (λ sentinel. sentinel.plan.reboots ≡ []) }
+        ensures place { IfOk result (λ sentinel. (sentinel.plan.place < group_size sentinel.plan) × (me sentinel.plan ≡ conf.id)) }
+        ensures core { IfOk result (λ sentinel. sentinel.core ≡ opened sentinel.plan now) }
+        ensures stored { IfOk result (λ sentinel. sentinel.stored ≡ conf.kept) }
+        ensures phase { IfOk result (λ sentinel. sentinel.phase ≡ Phase.Ready) }
+    {
+        Sentinel::open_with(alloc, conf, profile, Vec::new(alloc), now)
+    }
+
+    /// Opens a Sentinel by the rules of a profile, for which a master that was started again may load its data for
+    /// so many milliseconds until it counts as down, each by its number: 0, as for one beyond the end, is for ever;
+    /// else as [`Sentinel::open`].
+    pub fn open_with(
+        alloc: Global,
+        conf: Conf,
+        profile: Profile,
+        reboots: Vec<u64>,
+        now: u64,
+    ) -> Result<Sentinel, OpenFault>
+        ensures plan { IfOk result (λ sentinel. sentinel.plan.conf ≡ conf) }
+        ensures profile { IfOk result (λ sentinel. sentinel.plan.profile ≡ profile) }
+        ensures reboots { IfOk result (λ sentinel. sentinel.plan.reboots ≡ reboots.items) }
         ensures place { IfOk result (λ sentinel. (sentinel.plan.place < group_size sentinel.plan) × (me sentinel.plan ≡ conf.id)) }
         ensures core { IfOk result (λ sentinel. sentinel.core ≡ opened sentinel.plan now) }
         ensures stored { IfOk result (λ sentinel. sentinel.stored ≡ conf.kept) }
@@ -118,7 +141,7 @@ impl Sentinel {
         let Ok(file) = ConfText::room_for(alloc, &conf) else {
             return Err(OpenFault::NoMemory);
         };
-        let plan = Plan::new(conf, profile);
+        let plan = Plan::new(conf, profile, reboots);
         let Ok(core) = Core::open(alloc, &plan, now) else {
             return Err(OpenFault::NoMemory);
         };

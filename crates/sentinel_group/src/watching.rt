@@ -2,7 +2,9 @@
 
 ghost use Rattle.std.specs.Prelude.{◌≡◌, ◌<◌, ◌-◌, ◌^◌, [], IfOk};
 ghost use Rattle.sentinel_conf.specs.Meaning.{last};
+ghost use Rattle.sentinel_conf.specs.Watch.WatchConfs.{watch_settings};
 ghost use Rattle.sentinel_conf.specs.Watch.WatchLines.{own_pass_of};
+ghost use Rattle.sentinel_runner.specs.Opening.{reboots_in};
 
 use crate::command_line::port_threads_of;
 use crate::conf_paths::ConfPath;
@@ -22,7 +24,7 @@ use sentinel_conf::{
 };
 use sentinel_core::ServeFault;
 use sentinel_rules::Profile;
-use sentinel_runner::{GroupFault, PortSettings, Watch, WatchSettings};
+use sentinel_runner::{GroupFault, PortSettings, Watch, WatchSettings, reboots_of};
 use std::alloc::{AllocError, Global};
 use std::net::{Ipv4Addr, Net, SocketAddr};
 use std::process::ExitCode;
@@ -127,12 +129,15 @@ fn taken_settings(
     conf: &Conf,
     watch: &WatchConf,
     port: PortSettings,
-) -> Result<WatchSettings, AllocError> {
+) -> Result<WatchSettings, AllocError>
+    ensures { IfOk result (λ settings. settings.reboots.items ≡ reboots_in watch.now conf.now.roster) }
+{
     Ok(WatchSettings {
         addresses: addresses_of(alloc, conf, watch)?,
         port,
         admission: admission_of(alloc, conf, watch)?,
         logins: Logins::of(alloc, conf.roster(), watch)?,
+        reboots: reboots_of(alloc, conf.roster(), watch)?,
     })
 }
 
@@ -146,13 +151,17 @@ fn port_of(words: &ArgMatches) -> PortSettings {
 }
 
 /// What the lines of a file say that count for `watch` alone. A fault is told, and the status tells it too.
+/// Contracts see for how long each master may load its data, by the lines.
 fn settings_of(
     rt: HostRuntime,
     path: &str,
     conf: &Conf,
     text: &[u8],
     port: PortSettings,
-) -> Result<WatchSettings, ExitCode> {
+) -> Result<WatchSettings, ExitCode>
+    ensures { IfOk result (λ settings. IfOk (watch_settings conf.now text.now)
+        (λ said. settings.reboots.items ≡ reboots_in said conf.now.roster)) }
+{
     let watch = match read_watch(rt.alloc(), conf, text) {
         Ok(watch) => watch,
         Err(fault) => return Err(refuse_watch(rt, path, conf, text, fault)),

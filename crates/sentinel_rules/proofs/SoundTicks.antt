@@ -24,7 +24,7 @@ use Rattle.sentinel_rules.specs.declared.frames.Frame.{Frame}
 use Rattle.sentinel_rules.specs.declared.frames.TheConstants.{FRAMES_MAX}
 use Rattle.sentinel_rules.specs.declared.frames.Frame.TheVariants.{PingTo, InfoTo, HelloTo, FollowTo, AskTo, HandOverTo}
 use Rattle.sentinel_rules.specs.Plans.{Plan, me, group_size, master_count, nodes_of, node_name}
-use Rattle.sentinel_rules.specs.States.{Core, MasterState, NodeState, master_of, failover_of, is_idle, is_failing_over, is_tilted, is_master_down, is_odown_at, with_master, with_failover, with_current, is_wished, is_planned, card_place}
+use Rattle.sentinel_rules.specs.States.{Core, MasterState, NodeState, master_of, failover_of, is_idle, is_failing_over, is_tilted, is_master_down, is_odown_at, with_master, with_failover, with_current, is_wished, is_unrefused, card_place}
 use Rattle.sentinel_rules.specs.Parts.{Part, quiet, puts, then_part, part_if, frame_if, changed_from, frames_from}
 use Rattle.sentinel_rules.specs.Profiles.{is_asking, election_ms, marked_at, marked, rest_of, rested_at, rested}
 use Rattle.sentinel_rules.specs.Votes.{book_of, with_book, mark_for}
@@ -298,7 +298,7 @@ row_keeps plan m now core p lt busy s =
     let turn : Turn = turn_of plan core m now false in
     let epoch : ℕ = campaign_epoch core m in
     let f : IsSoundFailover plan core.kept m turn.failover = turn_of_sound plan core m now p s lt busy in
-    let promotes : List Frame = promote_frames plan core m (is_planned core m) (hands_over plan core m now) turn.row (chosen_place turn.failover.state) in
+    let promotes : List Frame = promote_frames plan core m (is_unrefused core m) (hands_over plan core m now) turn.row (chosen_place turn.failover.state) in
     let orders : List Frame = frames_from (order_frames plan m) 0 turn.failover.replicas in
     record {
       sound = rested_sound plan m now (rest_of plan.profile turn.row (election_ms plan m))
@@ -307,7 +307,7 @@ row_keeps plan m now core p lt busy s =
           (vote_sound plan m now epoch turn.vote (with_failover core m turn.failover)
           (campaign_within core.kept (epoch_of (failover_of core m).state) s.kept.current (s.each m lt).epoch)
           (sound_failover plan core m turn.failover s (λ l. f))));
-      few = let a : length promotes ≤ 1 = promote_few plan core m (is_planned core m) (hands_over plan core m now) turn.row (chosen_place turn.failover.state) in
+      few = let a : length promotes ≤ 1 = promote_few plan core m (is_unrefused core m) (hands_over plan core m now) turn.row (chosen_place turn.failover.state) in
           let b : length orders ≤ length turn.failover.replicas =
           one_each (order_frames plan m) (λ k replica. one_frame replica.ordered (FollowTo (node_name plan m k) m)) 0 turn.failover.replicas in
           let c : length turn.failover.replicas ≡ length (nodes_of plan m) = f.replicas in

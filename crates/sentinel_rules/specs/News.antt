@@ -9,6 +9,7 @@ use Rattle.ballot_law.specs.declared.messages.NodeName.TheVariants.{SentinelAt, 
 use Rattle.ballot_law.specs.declared.replies.Hello.{Hello}
 use Rattle.ballot_law.specs.declared.replies.Info.{Info}
 use Rattle.ballot_law.specs.declared.replies.PingReply.{PingReply}
+use Rattle.ballot_law.specs.declared.replies.PingReply.TheVariants.{Pong}
 use Rattle.ballot_law.specs.Ballots.{card_of}
 use Rattle.ballot_law.specs.Clocks.{age}
 use Rattle.ballot_law.specs.Orders.{same_addr, same_id}
@@ -41,7 +42,7 @@ hello_soon node = record node { hello_sent = None }
 
 -- at a new address the nodes have nothing to be wrong about yet
 abbrev pub moved : (now : ℕ) → NodeState → NodeState
-moved now node = record node { watch = after_change now node.watch; hello_sent = None; wrong_role = None; wrong_address = None }
+moved now node = record node { watch = after_change now node.watch; hello_sent = None; wrong_role = None; wrong_address = None; rebooted = None }
 
 abbrev pub at_same_address : MasterState → MasterState
 at_same_address master = record master { nodes = map hello_soon master.nodes }
@@ -137,12 +138,18 @@ answered plan (PortAt number) m now addr down leader epoch core = core
 
 -- Replies to PING
 
+-- who answers that it loads its data goes on loading
+abbrev pub loading_after : PingReply → Option ℕ → Option ℕ
+loading_after Pong since = None
+loading_after _ since = since
+
 abbrev pub node_pinged : (now : ℕ) → PingReply → NodeState → NodeState
 node_pinged now reply node =
     record node {
       watch = after_reply now reply node.watch;
       last_ping = if is_valid reply then Some now else node.last_ping;
       lost = false;
+      rebooted = loading_after reply node.rebooted;
       contact = contact_replied now (is_valid reply) node.contact;
     }
 
@@ -205,7 +212,17 @@ refusal_heard plan node core = if is_redis plan.profile then refusal_at plan (no
 
 -- INFO
 
--- the INFO, its moment and its role are kept, and for those who ask since when it has said that
+-- a node that tells another run id than before was started again
+abbrev pub is_another : Option RunId → Option RunId → Bool
+is_another None after = false
+is_another (Some before) None = false
+is_another (Some before) (Some after) = not (same_id before after)
+
+abbrev pub rebooted_after : (now : ℕ) → Option RunId → Option Info → Option ℕ → Option ℕ
+rebooted_after now id None since = since
+rebooted_after now id (Some before) since = if is_another before.id id then Some now else since
+
+-- the INFO, its moment and its role are kept, whether the node was started again, and for those who ask since when it has said its role
 abbrev pub with_info : (now : ℕ) → Info → NodeState → NodeState
 with_info now info node =
     record node {
@@ -213,6 +230,7 @@ with_info now info node =
       info_at = Some now;
       watch = after_role now info.role node.watch;
       lost = false;
+      rebooted = rebooted_after now info.id node.info node.rebooted;
       role_since = role_since_after now info.role node.info node.role_since;
     }
 

@@ -1,4 +1,5 @@
--- What doesn't change while a Sentinel runs: what its file says, its own place in the roster, and by which rules it works.
+-- What doesn't change while a Sentinel runs: what its file says, its own place in the roster, by which rules it works, and for how many milliseconds a master
+-- may load its data after a restart, by master.
 use Rattle.std.specs.Prelude.{ℕ, zero, suc, ◌+◌, ◌-◌, nat_lt, Option, Some, None, unwrap_or, List, [], ◌∷◌, length, slice_index_or, position, if◌then◌else◌}
 use Rattle.ballot_law.specs.declared.addresses.Addr.{Addr}
 use Rattle.ballot_law.specs.declared.addresses.RunId.{RunId}
@@ -17,6 +18,7 @@ pub record Plan : Type 0 where
   pub conf : ConfPlan
   pub place : ℕ
   pub profile : Profile
+  pub reboots : List ℕ
 
 abbrev pub roster_of : Plan → Roster
 roster_of plan = plan.conf.roster
@@ -34,6 +36,10 @@ master_count plan = length (roster_of plan).masters
 
 abbrev pub settings_at : Plan → (m : ℕ) → Settings
 settings_at plan m = slice_index_or plan.conf.settings m DEFAULT_SETTINGS
+
+-- for how long a master may load its data after a restart; 0 is for ever
+abbrev pub reboot_ms : Plan → (m : ℕ) → ℕ
+reboot_ms plan m = slice_index_or plan.reboots m 0
 
 -- the data nodes of a master, by address
 abbrev pub nodes_of : Plan → (m : ℕ) → List Addr

@@ -1,5 +1,5 @@
 -- What a Sentinel keeps: what its file is to hold, and what it heard, found and sent since its start.
-use Rattle.std.specs.Prelude.{ℕ, Bool, true, false, not, ◌&&◌, nat_le, is_some, Option, Some, None, List, length, map, replicate, slice_index_or, slice_set, ◌==◌}
+use Rattle.std.specs.Prelude.{ℕ, Bool, true, false, not, ◌&&◌, nat_le, is_some, Option, Some, None, List, length, map, replicate, slice_index_or, slice_set, ◌==◌, if◌then◌else◌}
 use Rattle.ballot_law.specs.declared.cards.Card.{Card}
 use Rattle.ballot_law.specs.declared.cards.Kept.{Kept}
 use Rattle.ballot_law.specs.declared.hearings.HeardVote.{HeardVote}
@@ -13,7 +13,7 @@ use Rattle.ballot_law.specs.Clocks.{age, clock}
 use Rattle.ballot_law.specs.Reports.{is_odown_by, kept_at}
 use Rattle.ballot_law.specs.Rosters.{MasterPlan, master_at}
 use Rattle.ballot_law.specs.Tilts.{Turned, opened_clock}
-use Rattle.ballot_law.specs.Watches.{WatchState, opened_at, down_since_of}
+use Rattle.ballot_law.specs.Watches.{WatchState, opened_at, down_since_of, earlier_of, passed_since}
 use Rattle.failover_states.specs.declared.states.FailoverState.{FailoverState}
 use Rattle.failover_states.specs.declared.states.FailoverState.TheVariants.{Idle, WaitStart, SelectReplica, SendPromotion, WaitPromotion, ReconfReplicas, UpdateConfig}
 use Rattle.failover_states.specs.Calls.{epoch_of}
@@ -22,11 +22,11 @@ use Rattle.failover_states.specs.Replicas.{untouched}
 use Rattle.sentinel_rules.specs.declared.contacts.Contact.{Contact}
 use Rattle.sentinel_rules.specs.Contacts.{new_contact}
 use Rattle.sentinel_rules.specs.declared.periods.TheConstants.{WISH_MS}
-use Rattle.sentinel_rules.specs.Plans.{Plan, roster_of, group_size, settings_at, node_place}
+use Rattle.sentinel_rules.specs.Plans.{Plan, roster_of, group_size, settings_at, reboot_ms, node_place}
 
 -- of a data node: its watch, when its last valid reply to a PING came, its last INFO and when it came, when it was last sent a
--- PING, an INFO and a hello, since when it has been wrong: as a master, or with another master; and whether of a connection to it was last heard that it was lost. For those who ask:
--- its connection, since when it has said that it has its role, and whether it may be told to clients
+-- PING, an INFO and a hello, since when it has been wrong: as a master, or with another master; and whether of a connection to it was last heard that it was lost, and since when
+-- it has been loading after a restart. For those who ask: its connection, since when it has said that it has its role, and whether it may be told to clients
 pub record NodeState : Type 0 where
   pub watch : WatchState
   pub last_ping : Option ℕ
@@ -38,6 +38,7 @@ pub record NodeState : Type 0 where
   pub wrong_role : Option ℕ
   pub wrong_address : Option ℕ
   pub lost : Bool
+  pub rebooted : Option ℕ
   pub contact : Contact
   pub role_since : ℕ
   pub announced : Bool
@@ -91,6 +92,7 @@ new_node now =
       wrong_role = None;
       wrong_address = None;
       lost = false;
+      rebooted = None;
       contact = new_contact now;
       role_since = now;
       announced = true;
@@ -191,6 +193,10 @@ is_same_epoch (Some epoch) (Some other) = epoch == other
 abbrev pub is_planned : Core → (m : ℕ) → Bool
 is_planned core m = is_same_epoch (epoch_of (failover_of core m).state) (master_of core m).planned
 
+-- and the master didn't refuse to hand over in it
+unfoldable pub is_unrefused : Core → (m : ℕ) → Bool
+is_unrefused core m = is_planned core m && not (master_of core m).refused
+
 abbrev pub is_awaiting : FailoverState → Bool
 is_awaiting Idle = false
 is_awaiting (WaitStart epoch) = false
@@ -220,10 +226,20 @@ says_replica (Some info) = not (is_master_role info.role)
 
 -- What is down
 
--- since when a data node has been subjectively down; that of the configuration also by reporting itself a replica
+-- Redis's master-reboot-down-after-period: a master that was started again and loads its data is well for this long, and then down. Where no period is set, as in
+-- each strict plan, it is well for as long as it loads
+abbrev pub loading_since : Option ℕ → (period now : ℕ) → Option ℕ
+loading_since since period now = if period == 0 then None else passed_since since period now
+
+abbrev pub reboot_down_since : Plan → Core → (m now k : ℕ) → Option ℕ
+reboot_down_since plan core m now k =
+    if k == card_place plan core m then loading_since (node_of core m k).rebooted (reboot_ms plan m) now else None
+
+-- since when a data node has been subjectively down; that of the configuration also by reporting itself a replica, or by loading for too long
 abbrev pub node_down_since : Plan → Core → (m now k : ℕ) → Option ℕ
 node_down_since plan core m now k =
-    down_since_of (node_of core m k).watch now (settings_at plan m).after_ms (k == card_place plan core m)
+    earlier_of (down_since_of (node_of core m k).watch now (settings_at plan m).after_ms (k == card_place plan core m))
+    (reboot_down_since plan core m now k)
 
 abbrev pub is_node_down : Plan → Core → (m now k : ℕ) → Bool
 is_node_down plan core m now k = is_some (node_down_since plan core m now k)

@@ -25,7 +25,7 @@ use Rattle.sentinel_rules.specs.declared.frames.Frame.{Frame}
 use Rattle.sentinel_rules.specs.declared.frames.Frame.TheVariants.{PingTo, InfoTo, HelloTo, AskTo, PromoteTo, HandOverTo, FollowTo}
 use Rattle.sentinel_rules.specs.Contacts.{contact_asked, since_after}
 use Rattle.sentinel_rules.specs.Plans.{Plan, roster_of, me, master_count, settings_at, nodes_of, addr_at, node_name}
-use Rattle.sentinel_rules.specs.States.{Core, NodeState, PeerState, master_of, node_of, failover_of, with_master, with_failover, with_current, card_place, is_failing_over, is_tilted, is_wished, is_planned, is_handed, is_node_down, is_master_down, is_odown_at}
+use Rattle.sentinel_rules.specs.States.{Core, NodeState, PeerState, master_of, node_of, failover_of, with_master, with_failover, with_current, card_place, is_failing_over, is_tilted, is_wished, is_planned, is_unrefused, is_handed, is_node_down, is_master_down, is_odown_at}
 use Rattle.sentinel_rules.specs.Parts.{Part, quiet, puts, then_part, part_if, frame_if, changed_from, frames_from}
 use Rattle.sentinel_rules.specs.Profiles.{may_begin, patience, with_pause, switched_to, is_switch_due, is_given_away, first_of, is_asking, master_down_ms}
 use Rattle.sentinel_rules.specs.Votes.{book_of, with_book, mark_for}
@@ -222,7 +222,7 @@ with_win m epoch (Some Elected) core = record core { won = Some (record { master
 with_win m epoch _ core = core
 
 -- in a switch that was asked for the master is told to hand over to the choice, where it is up
-abbrev pub hands_over : Plan → Core → (m now : ℕ) → Bool
+unfoldable pub hands_over : Plan → Core → (m now : ℕ) → Bool
 hands_over plan core m now = is_planned core m && not (is_master_down plan core m now)
 
 -- else the choice is told that it is the master
@@ -230,11 +230,11 @@ abbrev pub order_to : Plan → Core → (m k : ℕ) → (hands_over : Bool) → 
 order_to plan core m k hands_over =
     if hands_over then HandOverTo (node_name plan m (card_place plan core m)) (Some (record { node = node_name plan m k; addr = addr_at plan m k })) else PromoteTo (node_name plan m k)
 
--- and where a master that was to hand over didn't in time, it is told to stay
-abbrev pub promote_frames : Plan → Core → (m : ℕ) → (planned hands_over : Bool) → Option Row → (choice : Option ℕ) → List Frame
-promote_frames plan core m planned hands_over (Some Promote) (Some k) = order_to plan core m k hands_over ∷ []
-promote_frames plan core m planned hands_over (Some PromotionTimeout) choice = frame_if planned (HandOverTo (node_name plan m (card_place plan core m)) None)
-promote_frames plan core m planned hands_over row choice = []
+-- and where a master that was to hand over didn't in time, it is told to stay; not one that refused, which may be handing over for another Sentinel
+abbrev pub promote_frames : Plan → Core → (m : ℕ) → (unrefused hands_over : Bool) → Option Row → (choice : Option ℕ) → List Frame
+promote_frames plan core m unrefused hands_over (Some Promote) (Some k) = order_to plan core m k hands_over ∷ []
+promote_frames plan core m unrefused hands_over (Some PromotionTimeout) choice = frame_if unrefused (HandOverTo (node_name plan m (card_place plan core m)) None)
+promote_frames plan core m unrefused hands_over row choice = []
 
 -- those that the row orders to follow the new master, by address
 abbrev pub order_frames : Plan → (m k : ℕ) → ReplicaOrder → List Frame
@@ -247,7 +247,7 @@ row_part plan m now core =
     let epoch = campaign_epoch core m in
     puts
     (with_pause plan m now turn.row (with_win m epoch turn.row (with_vote plan m now epoch turn.vote (with_failover core m turn.failover))))
-    (promote_frames plan core m (is_planned core m) (hands_over plan core m now) turn.row (chosen_place turn.failover.state)
+    (promote_frames plan core m (is_unrefused core m) (hands_over plan core m now) turn.row (chosen_place turn.failover.state)
     ++ frames_from (order_frames plan m) 0 turn.failover.replicas)
 
 -- where no failover runs one may start: its campaign opens the epoch after the current one

@@ -94,6 +94,7 @@ plan_of digit others ports settings kept =
           };
       place = 0;
       profile = Strict;
+      reboots = [];
     }
 
 -- four Sentinels and a master without replicas, as without a file
@@ -574,7 +575,7 @@ abbrev pub hand_over_order : List Output
 hand_over_order = sent (StoreAt 0) (HandOver (Some (record { node = StoreAt 2; addr = local 6381 }))) ∷ []
 
 -- begun: the master is up, votes are asked for all the same, and the master is told to hand over, not the replica. done: the replica says that it is a master, and
--- the clients of both are sent away. stays: the master refuses, is told to stay at the next tick, and no failover runs then. busy: one at a time. strict: a strict
+-- the clients of both are sent away. stays: the master refuses, is told nothing more, and from the next tick on no failover runs. busy: one at a time. strict: a strict
 -- Sentinel doesn't know the command. fresh, lapsed: the campaign begins within 3,000 ms or not at all
 pub record APlannedSwitch : Type 0 where
   pub begun :
@@ -595,8 +596,7 @@ pub record APlannedSwitch : Type 0 where
       ∷ []
   pub stays :
       rare_from switch_plan (core_of switch_plan until_handed) ((1650, Refused (StoreAt 0)) ∷ tick_at 1700 ∷ tick_at 1800 ∷ [])
-      ≡ (1700, sent (StoreAt 0) (HandOver None) ∷ [])
-      ∷ []
+      ≡ []
   pub idle : (failover_of (core_of switch_plan (until_handed ++ ((1650, Refused (StoreAt 0)) ∷ tick_at 1700 ∷ []))) 0).state ≡ Idle
   pub busy :
       rare_from switch_plan (core_of switch_plan until_asked) (switch_command 1250 ∷ [])

@@ -10,14 +10,16 @@ use Rattle.sentinel_rules.specs.Plans.{group_size, me}
 use Rattle.sentinel_rules.specs.States.{opened as opened_core}
 use Rattle.sentinel_runner.specs.Opening.{IsOpenedBy, IsOpenedAnew}
 
-pub opens : {S : Type 0} (held : S → Option (List ℕ)) (failures : S → ℕ) (keeper : Keeper S) (conf : ConfPlan) (profile : Profile) (now : ℕ) (start : World)
-    → start ≡ opened held failures keeper → keeper.sentinel.plan.conf ≡ conf → keeper.sentinel.plan.profile ≡ profile
+pub opens : {S : Type 0} (held : S → Option (List ℕ)) (failures : S → ℕ) (keeper : Keeper S) (conf : ConfPlan) (profile : Profile) (reboots : List ℕ) (now : ℕ)
+    → (start : World)
+    → start ≡ opened held failures keeper → keeper.sentinel.plan.conf ≡ conf → keeper.sentinel.plan.profile ≡ profile → keeper.sentinel.plan.reboots ≡ reboots
     → (keeper.sentinel.plan.place < group_size keeper.sentinel.plan) × (me keeper.sentinel.plan ≡ conf.id) → keeper.sentinel.core ≡ opened_core keeper.sentinel.plan now
-    → keeper.sentinel.stored ≡ conf.kept → IsOpenedBy conf profile now (held keeper.store) start
-opens held failures keeper conf profile now start is plan by place core stored =
-    subst (IsOpenedBy conf profile now (held keeper.store)) (sym is) (record {
+    → keeper.sentinel.stored ≡ conf.kept → IsOpenedBy conf profile reboots now (held keeper.store) start
+opens held failures keeper conf profile reboots now start is plan by may_load place core stored =
+    subst (IsOpenedBy conf profile reboots now (held keeper.store)) (sym is) (record {
       conf_is = plan;
       profile_is = by;
+      reboots_are = may_load;
       within = place.0;
       own_place = place.1;
       core_is = core;
@@ -27,10 +29,12 @@ opens held failures keeper conf profile now start is plan by place core stored =
     })
 
 -- with the text that was stored before
-pub opens_anew : (conf : ConfPlan) (profile : Profile) (now : ℕ) (text : Option (List ℕ)) (start : World) → IsOpenedBy conf profile now text start
-    → IfSome text (λ bytes. bytes ≡ rewritten conf conf.kept) → IsOpenedAnew conf profile now start
-opens_anew conf profile now text start opens written = record { text = text; opens = opens; written = written }
+pub opens_anew : (conf : ConfPlan) (profile : Profile) (reboots : List ℕ) (now : ℕ) (text : Option (List ℕ)) (start : World)
+    → IsOpenedBy conf profile reboots now text start
+    → IfSome text (λ bytes. bytes ≡ rewritten conf conf.kept) → IsOpenedAnew conf profile reboots now start
+opens_anew conf profile reboots now text start opens written = record { text = text; opens = opens; written = written }
 
 -- by the profile of its port
-pub opens_as : (conf : ConfPlan) (room profile : Profile) (now : ℕ) (start : World) → room ≡ profile → IsOpenedAnew conf room now start → IsOpenedAnew conf profile now start
-opens_as conf room profile now start same opens = subst (λ (p : Profile). IsOpenedAnew conf p now start) same opens
+pub opens_as : (conf : ConfPlan) (room profile : Profile) (reboots : List ℕ) (now : ℕ) (start : World) → room ≡ profile
+    → IsOpenedAnew conf room reboots now start → IsOpenedAnew conf profile reboots now start
+opens_as conf room profile reboots now start same opens = subst (λ (p : Profile). IsOpenedAnew conf p reboots now start) same opens

@@ -1,6 +1,6 @@
 //! A Sentinel that is open, before its threads run.
 
-ghost use Rattle.std.specs.Prelude.{◌≡◌, ◌≢◌, ◌<◌, ◌≤◌, ◌+◌, ◌-◌, ◌^◌, IfErr, IfOk, length};
+ghost use Rattle.std.specs.Prelude.{◌≡◌, ◌≢◌, ◌<◌, ◌≤◌, ◌+◌, ◌-◌, ◌^◌, [], IfErr, IfOk, length};
 ghost use Rattle.sentinel_runner.specs.declared.opened.TheConstants.{PORT_THREADS_MAX};
 ghost use Rattle.sentinel_runner.specs.Opening.{IsOpenedBy};
 ghost use Rattle.std.specs.IoError.{error_kind};
@@ -57,6 +57,18 @@ pub(crate) struct Opened<S: ConfStore> {
     ghost seats: { seat.view.share ≡ length others.items + 1 + beside },
 }
 
+/// With what a Sentinel is opened, beside its port.
+#[derive(Drop)]
+pub(crate) struct OpenedWith<S: ConfStore> {
+    pub(crate) conf: Conf,
+    pub(crate) store: S,
+    /// For how many milliseconds each master may load its data after a restart, by its number; 0, as for one beyond the
+    /// end, is for ever.
+    pub(crate) reboots: Vec<u64>,
+    /// The reading of the clock at which it is opened.
+    pub(crate) now: u64,
+}
+
 /// What an error of the system is: want of memory, or a port that can't be had.
 pub(crate) fn fault_of(error: &io::Error) -> GroupFault
     ensures memory { error_kind error.now ≡ ErrorKind.OutOfMemory → result ≡ NoMemory }
@@ -106,11 +118,19 @@ impl<S: ConfStore + Drop> Opened<S> {
         requires room { S.failure_count store < 2 ^ 64 - 1 }
         ensures roster { IfErr result (λ fault. fault ≢ NotOneRoster) }
         ensures seats { IfOk result (λ opened. opened.beside ≡ beside) }
-        ensures start { IfOk result (λ opened. IsOpenedBy conf room.profile 0 (S.held store) opened.cell.start) }
+        ensures start { IfOk result (λ opened. IsOpenedBy conf room.profile [] 0 (S.held store) opened.cell.start) }
     {
         let number = conf.port();
         match Port::open(rt, alloc, number, room) {
-            Ok(ports) => Self::with_port(alloc, conf, store, ports, room, beside, 0),
+            Ok(ports) => {
+                let beginning = OpenedWith {
+                    conf,
+                    store,
+                    reboots: Vec::new(alloc),
+                    now: 0,
+                };
+                Self::with_port(alloc, beginning, ports, room, beside)
+            }
             Err(error) => {
                 if error.kind() != ErrorKind::OutOfMemory {
                     warn!(rt; "port {number} of 127.0.0.1 can't be had");
@@ -120,28 +140,32 @@ impl<S: ConfStore + Drop> Opened<S> {
         }
     }
 
-    /// Opens the Sentinel of this conf, of the profile of its port's room, at this reading of the clock, with what each
-    /// thread of the port serves, and a seat for each of them and for the `beside` other threads. Many parameters: each
-    /// is what the Sentinel begins with.
+    /// Opens the Sentinel with this beginning, of the profile of its port's room, with what each thread of the port
+    /// serves, and a seat for each of them and for the `beside` other threads.
     #[tactic(auto, using(crate::proofs::Opening::opens))]
     pub(crate) fn with_port(
         alloc: Global,
-        conf: Conf,
-        store: S,
+        beginning: OpenedWith<S>,
         ports: (Port, Vec<Port>),
         room: PortRoom,
         beside: u16,
-        now: u64,
     ) -> Result<Opened<S>, GroupFault>
-        requires room { S.failure_count store < 2 ^ 64 - 1 }
+        requires room { S.failure_count beginning.store < 2 ^ 64 - 1 }
         requires threads { length ports.1.items + 1 ≡ room.threads }
         ensures roster { IfErr result (λ fault. fault ≢ NotOneRoster) }
         ensures seats { IfOk result (λ opened. opened.beside ≡ beside) }
-        ensures start { IfOk result (λ opened. IsOpenedBy conf room.profile now (S.held store) opened.cell.start) }
+        ensures start { IfOk result (λ opened. IsOpenedBy beginning.conf room.profile beginning.reboots.items
+            beginning.now (S.held beginning.store) opened.cell.start) }
     {
+        let OpenedWith {
+            conf,
+            store,
+            reboots,
+            now,
+        } = beginning;
         let (port, others) = ports;
         let (number, place) = (conf.port(), conf.place());
-        let Ok(sentinel) = Sentinel::open_as(alloc, conf, room.profile(), now) else {
+        let Ok(sentinel) = Sentinel::open_with(alloc, conf, room.profile(), reboots, now) else {
             return Err(GroupFault::NoMemory);
         };
         let threads = room.threads();

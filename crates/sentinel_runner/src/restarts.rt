@@ -7,7 +7,7 @@
 ghost use Rattle.std.specs.Prelude.{◌≡◌, ◌<◌, ◌-◌, ◌^◌, ◌+◌, IfOk, OnOk, length};
 ghost use Rattle.sentinel_runner.specs.declared.started.TheConstants.{BESIDE};
 
-use crate::opened::Opened;
+use crate::opened::{Opened, OpenedWith};
 use crate::port_parts::end_for_want;
 use crate::shared::Shared;
 use crate::started::BESIDE;
@@ -290,7 +290,13 @@ impl<S: ConfStore + Drop> Restarts<S> {
                 return Err(why);
             }
         };
-        match Opened::with_port(self.alloc, conf, store, ports, self.room, BESIDE, now) {
+        let beginning = OpenedWith {
+            conf,
+            store,
+            reboots: Vec::new(self.alloc),
+            now,
+        };
+        match Opened::with_port(self.alloc, beginning, ports, self.room, BESIDE) {
             Ok(opened) => Ok(Some(Restart { opened })),
             Err(_) => Ok(None),
         }

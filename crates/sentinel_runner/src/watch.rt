@@ -9,7 +9,7 @@ ghost use Rattle.sentinel_runner.specs.declared.watch.TheConstants.{BESIDE};
 
 use crate::group::outcome;
 use crate::group_fault::GroupFault;
-use crate::opened::{Opened, PortSettings, fault_of};
+use crate::opened::{Opened, OpenedWith, PortSettings, fault_of};
 use crate::port_parts::{PortPart, ServesPort, end_for_want, note_lost, parts_of, serve_parts};
 use client_port::{Admission, Port, PortAddress, PortRoom, ReadsTimes, Sockets, seats_beside};
 use links::connection_count;
@@ -40,6 +40,9 @@ pub struct WatchSettings {
     pub admission: Admission,
     /// With which words it logs in to the nodes of each master.
     pub logins: Logins,
+    /// For how many milliseconds each master may load its data after a restart until it counts as down, by its number;
+    /// 0, as for one beyond the end, is for ever.
+    pub reboots: Vec<u64>,
 }
 
 /// A Sentinel that is open, with its end of the connections, before its threads run.
@@ -167,12 +170,14 @@ fn port_of<R: Net + Log>(
     }
 }
 
-/// The Sentinel of this conf with its port, once the store has taken what the conf keeps.
+/// The Sentinel of this conf with its port, whose masters may load their data for so long after a restart, once the
+/// store has taken what the conf keeps.
 #[tactic(auto, using(crate::proofs::Opening::opens_anew))]
 fn opened_of<S: ConfStore + Drop>(
     alloc: Global,
     conf: Conf,
     mut store: S,
+    reboots: Vec<u64>,
     ports: (Port, Vec<Port>),
     room: PortRoom,
 ) -> Result<Opened<S>, GroupFault>
@@ -180,10 +185,16 @@ fn opened_of<S: ConfStore + Drop>(
     requires threads { length ports.1.items + 1 ≡ room.threads }
     ensures roster { IfErr result (λ fault. fault ≢ NotOneRoster) }
     ensures seats { IfOk result (λ opened. opened.beside ≡ BESIDE) }
-    ensures start { IfOk result (λ opened. IsOpenedAnew conf room.profile 0 opened.cell.start) }
+    ensures start { IfOk result (λ opened. IsOpenedAnew conf room.profile reboots.items 0 opened.cell.start) }
 {
     prove_store(alloc, &conf, &mut store)?;
-    let opened = Opened::with_port(alloc, conf, store, ports, room, BESIDE, 0)?;
+    let beginning = OpenedWith {
+        conf,
+        store,
+        reboots,
+        now: 0,
+    };
+    let opened = Opened::with_port(alloc, beginning, ports, room, BESIDE)?;
     Ok(opened)
 }
 
@@ -202,7 +213,8 @@ impl<S: ConfStore + Drop> Watch<S> {
         settings: WatchSettings,
     ) -> Result<Watch<S>, GroupFault>
         requires { S.failure_count store < 2 ^ 64 - 1 }
-        ensures start { IfOk result (λ watch. IsOpenedAnew conf settings.port.profile 0 watch.watching.opened.cell.start) }
+        ensures start { IfOk result (λ watch. IsOpenedAnew conf settings.port.profile settings.reboots.items 0
+            watch.watching.opened.cell.start) }
         ensures roster { IfErr result (λ fault. fault ≢ NotOneRoster) }
     {
         let WatchSettings {
@@ -210,6 +222,7 @@ impl<S: ConfStore + Drop> Watch<S> {
             port,
             admission,
             logins,
+            reboots,
         } = settings;
         let (wires, far) = wires_of(rt, alloc, &conf, logins)?;
         let room = room_of(rt, alloc, &conf, port, &admission)?;
@@ -218,7 +231,7 @@ impl<S: ConfStore + Drop> Watch<S> {
         let sockets = sockets_of(rt, alloc, addresses.as_slice())?;
         let ports = port_of(rt, alloc, sockets, room, &admission)?;
         let number = conf.port();
-        let opened = opened_of(alloc, conf, store, ports, room)?;
+        let opened = opened_of(alloc, conf, store, reboots, ports, room)?;
         note_room(rt, number, wanted, &admission);
         let state = WatchState {
             run: RunState::new(GroupClock::start(rt)),

@@ -221,8 +221,8 @@ impl Core {
         let as_master = k == card_at;
         let after_ms = plan.settings(m).after_ms;
         match self.kept_node(m, k) {
-            Some(node) => node.watch.sdown_since(now, after_ms, as_master),
-            None => Node::new(0).watch.sdown_since(now, after_ms, as_master),
+            Some(node) => node.down_since(now, after_ms, as_master, plan.reboot_ms(m)),
+            None => Node::new(0).down_since(now, after_ms, as_master, plan.reboot_ms(m)),
         }
     }
 

@@ -6,7 +6,7 @@ ghost use Rattle.failover_states.specs.Calls.{epoch_of};
 ghost use Rattle.sentinel_rules.specs.Answers.{wished};
 ghost use Rattle.sentinel_rules.specs.Plans.{nodes_of};
 ghost use Rattle.sentinel_rules.specs.Profiles.{place_followed, is_taking_over, switched_to, is_switch_due, is_given_away, is_electing, is_asking};
-ghost use Rattle.sentinel_rules.specs.States.{is_recent, is_wished, is_same_epoch, is_planned, is_awaiting, is_handed, is_master_role, says_master, says_replica, is_master_down, card_place, master_of, node_of, with_master};
+ghost use Rattle.sentinel_rules.specs.States.{is_recent, is_wished, is_same_epoch, is_planned, is_unrefused, is_awaiting, is_handed, is_master_role, says_master, says_replica, is_master_down, card_place, master_of, node_of, with_master};
 ghost use Rattle.sentinel_rules.specs.Ticks.{heir_of, planned_if, with_plan};
 
 use crate::cores::Core;
@@ -167,6 +167,14 @@ impl Core {
             Some(master) => is_same_epoch(master.failover.epoch(), master.planned),
             None => false,
         }
+    }
+
+    /// Whether it is, and the master didn't refuse to hand over in it.
+    #[tactic(auto, unfolding(sentinel_rules::specs::States::is_unrefused))]
+    pub fn is_unrefused(&self, m: u16) -> bool
+        ensures { result ≡ is_unrefused self.now m }
+    {
+        self.is_planned(m) && !self.has_refused(m)
     }
 
     /// Whether the master was told to hand over in it, and its choice is awaited.

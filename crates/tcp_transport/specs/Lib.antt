@@ -1,3 +1,4 @@
 pub mod Hearing
 pub mod Logins
+pub mod Replicas
 pub mod Traffic

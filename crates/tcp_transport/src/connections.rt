@@ -10,7 +10,7 @@ use crate::logins::Logins;
 use crate::peer_connection::PeerConnection;
 use crate::roster_rows::RowNotes;
 use crate::traffic::PIECE;
-use ballot_law::{Event, NodeName, Roster};
+use ballot_law::{Body, Event, Message, NodeName, Roster};
 use links::{Login, RecentFaults, TickSchedule, connection_count, ping_each, place_of, target_at};
 use log::Log;
 use mio::{Events, Poll, Token};
@@ -260,6 +260,23 @@ impl Connections {
         }
     }
 
+    /// Where a message has a master hand over to a replica, that is to acknowledge its stream at once. A user of the
+    /// file may not be allowed to ask for it, so it isn't asked in a user's name.
+    fn hurry_heir(&mut self, message: &Message, now: u64) {
+        let Body::HandOver(Some(heir)) = &message.body else {
+            return;
+        };
+        let Some(place) = place_of(&self.roster, heir.node) else {
+            return;
+        };
+        if let Login::User(_, _) = login_of(&self.roster, &self.logins, heir.node) {
+            return;
+        }
+        if let Some(Some(wire)) = self.wires.get_mut(place) {
+            wire.hurry(now);
+        }
+    }
+
     /// Puts out the messages that wait, at this reading of the clock.
     fn put_out_all<R: Wait>(&mut self, rt: &R, now: u64) {
         for _ in 0..MESSAGES_MAX {
@@ -267,6 +284,7 @@ impl Connections {
                 return;
             };
             self.put_out(&outgoing, now);
+            self.hurry_heir(outgoing.message(), now);
         }
     }
 

@@ -9,7 +9,9 @@ use crate::exchange::TransportEnd;
 use crate::roster_rows::{RowHeard, RowLook};
 use crate::traffic::{Unheard, hear, send};
 use ballot_law::{Addr, Body, Event, Message, NodeName, Roster};
-use links::{FLOW_MS, LinkFault, Login, NodeLink, RateLimit, Stage, Target, is_refusal};
+use links::{
+    FLOW_MS, LinkFault, Login, NodeLink, RateLimit, Stage, Target, is_refusal, wants_login,
+};
 use log::{Log, warn};
 use mio::net::TcpStream;
 use mio::{Interest, Registry, Token};
@@ -27,11 +29,16 @@ const READS_MAX: u32 = 16;
 /// they have as long to listen again.
 const LOOK_MS: u64 = 100;
 
+/// For how long a replica to which a master hands over is asked to acknowledge its stream beside each INFO, in
+/// milliseconds: a master waits for that, and a replica does it once a second by itself.
+const ACKS_MS: u64 = 2_500;
+
 /// A connection to a node, with its socket where it is open or being opened. `goes_on` is whether it may have more to
 /// read, `is_ending` whether the system told of its end, `is_refused` whether the node refused who asks when it was
 /// heard last, `look_at` when it is to be asked what came of an order, `fault` the fault of what came that closed it
 /// last, and `shut_until` until when it stays closed, since too much came on it, `is_lost` whether it was told to be
-/// lost since it was open last, `rows` what it asks another Sentinel for its rows.
+/// lost since it was open last, `rows` what it asks another Sentinel for its rows, `acks_until` until when its node is
+/// asked to acknowledge its master's stream.
 #[derive(Drop)]
 pub(crate) struct PeerConnection {
     link: NodeLink,
@@ -45,6 +52,7 @@ pub(crate) struct PeerConnection {
     shut_until: u64,
     is_lost: bool,
     rows: RowLook,
+    acks_until: u64,
     alloc: Global,
 }
 
@@ -113,6 +121,7 @@ impl PeerConnection {
             shut_until: 0,
             is_lost: false,
             rows: RowLook::new(),
+            acks_until: 0,
             alloc,
         }
     }
@@ -261,6 +270,12 @@ impl PeerConnection {
         self.send_out(now);
     }
 
+    /// A master hands over to its node: beside each INFO that is asked of it from now on for `ACKS_MS` it is asked to
+    /// acknowledge its master's stream, for which the master waits.
+    pub(crate) fn hurry(&mut self, now: u64) {
+        self.acks_until = now.saturating_add(ACKS_MS);
+    }
+
     /// Puts out a message where it is open, and sends what it can; else the message is lost, and so is a PING where the
     /// connection has sent one a moment ago. What came of an order to follow a master, or none, is asked soon. A fault
     /// has closed it.
@@ -270,6 +285,11 @@ impl PeerConnection {
     {
         if let Body::Ping = message.body {
             return self.ask_due(now);
+        }
+        if let Body::InfoAsk = message.body {
+            if now < self.acks_until {
+                let _ = self.link.ask_ack(now);
+            }
         }
         let _ = self.link.ask(message, now);
         if let Body::ReplicaOf(_) = message.body {
@@ -332,7 +352,7 @@ impl PeerConnection {
 
     /// Reads one piece, and hands on what it tells: how long it is; the error says why none was taken, or that more
     /// comes than a node has to say: then the connection is shut for a second, so that what other nodes say isn't lost
-    /// beside it.
+    /// beside it; or that the node wants a password first, so that the connection is of no use, as in Redis.
     #[tactic(auto, using(crate::proofs::Hearing::all_within_told))]
     fn read_once<R: Wait + Log>(
         &mut self,
@@ -359,6 +379,9 @@ impl PeerConnection {
                     self.note_stay(rt, &room[..count]);
                 }
                 self.note_piece(rt, &room[..count]);
+                if wants_login(&room[..count]) {
+                    return Err(ErrorKind::PermissionDenied);
+                }
                 Ok(count)
             }
             Err(Unheard::Stream(kind)) => Err(kind),

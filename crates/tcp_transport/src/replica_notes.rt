@@ -1,11 +1,16 @@
 //! What is noted of the replicas that a master lists and no file names.
 
+ghost use Rattle.std.specs.Prelude.{◌≡◌, Some, None, MatchOption};
+ghost use Rattle.ballot_law.specs.Cuts.{cut_at};
+ghost use Rattle.node_texts.specs.Infos.{after_label};
+ghost use Rattle.tcp_transport.specs.Replicas.{first_of, ip_around, replica_in};
+
 use crate::hello_notes::{DIFFERENT_MS, Seldom, Told, named};
 use ballot_law::{Addr, NodeName, Roster, Text};
 use log::{Log, warn};
 use std::alloc::Global;
 use std::str::from_utf8;
-use tokens::address_of;
+use tokens::{address_of, are_digits, split_at_byte};
 
 /// Of how many such replicas it is kept when they were noted; where there are more, no further one is noted.
 const KEPT_MAX: usize = 64;
@@ -23,19 +28,47 @@ pub(crate) struct ReplicaNotes {
     unnamed: Vec<Unnamed>,
 }
 
-/// The address in a line of an INFO that lists a replica, as
-/// `slave0:ip=10.0.0.4,port=6379,state=online,offset=70,lag=0`; none in any other line.
-fn replica_in(line: &str) -> Option<Addr> {
-    let (number, fields) = line.strip_prefix("slave")?.split_once(':')?;
-    if number.is_empty() || !number.bytes().all(|byte| byte.is_ascii_digit()) {
-        return None;
+/// What stands before the first byte of this value; all where none has it.
+fn first_part(bytes: &[u8], byte: u8) -> &[u8]
+    ensures { result.now ≡ first_of (cut_at byte bytes.now) }
+{
+    match split_at_byte(bytes, byte) {
+        Some((part, _)) => part,
+        None => bytes,
     }
-    let (ip, rest) = fields.strip_prefix("ip=")?.split_once(",port=")?;
-    let port = match rest.split_once(',') {
-        Some((port, _)) => port,
-        None => rest,
-    };
-    address_of(ip.as_bytes(), port.as_bytes())
+}
+
+/// What stands behind the label, where the bytes begin with it.
+fn behind<'a>(bytes: &'a [u8], label: &[u8]) -> Option<&'a [u8]>
+    ensures { MatchOption result (after_label label.now bytes.now ≡ None)
+        (λ rest. after_label label.now bytes.now ≡ Some rest.now) }
+{
+    bytes.strip_prefix(label)
+}
+
+/// The ip behind a number, where the text is both, around its first colon.
+fn ip_around(text: &[u8]) -> Option<&[u8]>
+    ensures { MatchOption result (ip_around (cut_at 58 text.now) ≡ None)
+        (λ ip. ip_around (cut_at 58 text.now) ≡ Some ip.now) }
+{
+    let (number, more) = split_at_byte(text, b':')?;
+    if are_digits(number) {
+        behind(first_part(more, b':'), b"ip=")
+    } else {
+        None
+    }
+}
+
+/// The address in a line of an INFO that lists a replica, as
+/// `slave0:ip=10.0.0.4,port=6379,state=online,offset=70,lag=0`; none in any other line, and none where the replica
+/// tells the name of a host.
+fn replica_in(line: &[u8]) -> Option<Addr>
+    ensures { result ≡ replica_in line.now }
+{
+    let (part, more) = split_at_byte(line, b',')?;
+    let ip = ip_around(behind(part, b"slave")?)?;
+    let port = behind(first_part(more, b','), b"port=")?;
+    address_of(ip, port)
 }
 
 impl ReplicaNotes {
@@ -80,7 +113,7 @@ impl ReplicaNotes {
             return;
         }
         for line in text.split("\r\n") {
-            if let Some(addr) = replica_in(line) {
+            if let Some(addr) = replica_in(line.as_bytes()) {
                 if !roster.has_node(at.master, addr) && self.takes_note(addr, now) {
                     self.note(rt, roster, at.master, addr);
                 }
@@ -93,7 +126,7 @@ impl ReplicaNotes {
         if let Some(watched) = roster.masters().get(master as usize) {
             let (name, addr) = (named(&watched.name), Told(addr));
             warn!(rt; target: "tcp_wires::replica_notes",
-                "replica {addr} of {name} is in no file: it isn't watched, and no failover makes it follow the new master. Name it by `sentinel known-replica {name}` in all files"
+                "replica {addr} of {name} is in no file: it isn't watched, clients aren't told of it, and no failover makes it follow the new master. Name it by `sentinel known-replica {name}` in all files, which `change --add-replica {addr}` makes (docs/OPERATING.md, \"Change a group\")"
             );
         }
     }

@@ -22,7 +22,6 @@ abbrev pub sentinel_losses : List (List ℕ × List ℕ)
 sentinel_losses =
     (codes "notification-script", codes "no script is run here, so nobody is told by it: subscribe to the events of the port")
     ∷ (codes "client-reconfig-script", codes "no script is run here: clients learn a new address from the port, or by +switch-master")
-    ∷ (codes "master-reboot-down-after-period", codes "a master that loads its data after a restart is well here, however long that takes")
     ∷ []
 
 abbrev pub first_losses : List (List ℕ × List ℕ)

@@ -28,11 +28,6 @@ fn sentinel_loss(name: &[u8]) -> Option<&'static str>
             "no script is run here: clients learn a new address from the port, or by +switch-master",
         );
     }
-    if is_named(name, b"master-reboot-down-after-period") {
-        return Some(
-            "a master that loads its data after a restart is well here, however long that takes",
-        );
-    }
     None
 }
 

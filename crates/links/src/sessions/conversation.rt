@@ -8,6 +8,7 @@ ghost use Rattle.resp2.specs.Framing.Stream.{reading, held_size, bytes_in};
 ghost use Rattle.links.specs.declared.sessions.questions.Question.{Question};
 ghost use Rattle.links.specs.Sessions.LongHeld.{held_in, memory_in};
 ghost use Rattle.links.specs.Sessions.Links.{next_asked, listed, question_of, IsRefused, Receives};
+ghost use Rattle.links.specs.Speaking.{ack_bytes};
 ghost use Rattle.links.specs.Sessions.OnTheWay.{IsOnTheWay, Steps, Drains, Told, Untold, closed_by};
 
 use crate::sessions::fault::LinkFault;
@@ -60,6 +61,16 @@ fn push_words(text: &mut OutText, words: &[&[u8]]) -> Result<(), NoMemory>
         push_bulk(text, word)?;
     }
     Ok(())
+}
+
+/// Adds the commands by which a replica acknowledges at once what it has of its master's stream. Redis answers
+/// REPLCONF with nothing, or with an error where the client may not send it; so answers are off around it.
+fn push_ack(text: &mut OutText) -> Result<(), NoMemory>
+    ensures { OnOk result (text.new ≡ text.old ++ ack_bytes) }
+{
+    push_words(text, &[b"CLIENT", b"REPLY", b"OFF"])?;
+    push_words(text, &[b"REPLCONF", b"GETACK", b"*"])?;
+    push_words(text, &[b"CLIENT", b"REPLY", b"ON"])
 }
 
 impl Conversation {
@@ -165,6 +176,25 @@ impl Conversation {
     {
         let mut text = OutText::new(self.alloc);
         if push_words(&mut text, words).is_err() {
+            return Err(LinkFault::NoMemory);
+        }
+        self.put_out(&text, Question::Order)
+    }
+
+    /// Puts out that a replica is to acknowledge at once what it has of its master's stream, or changes nothing. One
+    /// answer comes, which tells nothing.
+    pub(crate) fn ask_ack(&mut self) -> Result<(), LinkFault>
+        ensures node { self.new.node ≡ self.old.node }
+        ensures listens { self.new.listens ≡ self.old.listens }
+        ensures frames { self.new.frames ≡ self.old.frames }
+        ensures ok { OnOk result ((self.new.unsent.items ≡ self.old.unsent.items ++ ack_bytes)
+            × (self.new.asked.items ≡ self.old.asked.items ++ Question.Order ∷ [])) }
+        ensures few { OnOk result (length self.new.asked.items ≤ ASKED_MAX) }
+        ensures err { OnErr result ((self.new.unsent.items ≡ self.old.unsent.items) × (self.new.asked.items ≡ self.old.asked.items)) }
+        ensures fault { IfErr result (IsRefused self.old.asked.items) }
+    {
+        let mut text = OutText::new(self.alloc);
+        if push_ack(&mut text).is_err() {
             return Err(LinkFault::NoMemory);
         }
         self.put_out(&text, Question::Order)

@@ -6,6 +6,7 @@ ghost use Rattle.node_texts.specs.Messages.MessageTexts.{message_bytes, words_fr
 ghost use Rattle.resp2.specs.Framing.Frame.{spelling};
 ghost use Rattle.links.specs.declared.sessions.questions.Question.TheVariants as asks;
 ghost use Rattle.links.specs.Sessions.Links.{question_of, IsRefused, Receives};
+ghost use Rattle.links.specs.Speaking.{ack_bytes};
 
 use crate::sessions::conversation::{ASKED_MAX, Conversation};
 use crate::sessions::fault::LinkFault;
@@ -91,6 +92,20 @@ impl LinkSession {
         ensures fault { IfErr result (IsRefused self.old.asked) }
     {
         self.talk.order(words)
+    }
+
+    /// Puts out that a replica is to acknowledge at once what it has of its master's stream. One answer comes, which
+    /// tells nothing. A refusal changes nothing.
+    pub fn ask_ack(&mut self) -> Result<(), LinkFault>
+        ensures ok { OnOk result (self.new ≡ record self.old {
+          unsent = self.old.unsent ++ ack_bytes;
+          asked = self.old.asked ++ asks.Order ∷ [];
+        }) }
+        ensures few { OnOk result (length self.new.asked ≤ ASKED_MAX) }
+        ensures err { OnErr result (self.new ≡ self.old) }
+        ensures fault { IfErr result (IsRefused self.old.asked) }
+    {
+        self.talk.ask_ack()
     }
 
     /// Puts out SENTINEL MYID, to a Sentinel that is to have this run id. A refusal changes nothing.

@@ -7,7 +7,7 @@ use Rattle.tokens.specs.Quotes.{is_comment, redis_words}
 use Rattle.sentinel_conf.specs.declared.watch.faults.WatchKind.{WatchKind}
 use Rattle.sentinel_conf.specs.declared.watch.faults.WatchKind.TheVariants.{BadDirective, BadName, BadNumber, BadSeconds, BadBind, BadYesNo, BadQuotes, NamesOfHosts, AclFile, Include, TlsPort, TlsReplication, TlsSetting, RenamedCommand, UnknownDirective, ByteOrderMark}
 use Rattle.sentinel_conf.specs.declared.watch.settings.Setting.{Setting}
-use Rattle.sentinel_conf.specs.declared.watch.settings.Setting.TheVariants.{Bind, NodePass, NodeUser, OwnPass, PeerPass, PeerUser, MaxClients, Timeout, ProtectedMode, DefaultUser}
+use Rattle.sentinel_conf.specs.declared.watch.settings.Setting.TheVariants.{Bind, NodePass, NodeUser, OwnPass, PeerPass, PeerUser, Reboot, MaxClients, Timeout, ProtectedMode, DefaultUser}
 use Rattle.sentinel_conf.specs.declared.watch.binds.Bind.{Bind as BindAt}
 use Rattle.sentinel_conf.specs.declared.watch.settings.WatchLine.{WatchLine}
 use Rattle.sentinel_conf.specs.declared.watch.settings.WatchLine.TheVariants as line
@@ -55,6 +55,11 @@ peer_pass_line = one (λ pass. line.Says (PeerPass pass))
 abbrev pub peer_user_line : List (List ℕ) → WatchLine
 peer_user_line = one (λ user. line.Says (PeerUser user))
 
+-- 0 is for ever
+abbrev pub reboot_line : List (List ℕ) → WatchLine
+reboot_line =
+    two (λ n ms. given_or BadName (name n) (λ name. given_or BadNumber (number_within 0 4294967295 ms) (λ ms. line.Says (Reboot name ms))))
+
 abbrev pub max_clients_line : List (List ℕ) → WatchLine
 max_clients_line = one (λ n. given_or BadNumber (number_within 1 4294967295 n) (λ count. line.Says (MaxClients count)))
 
@@ -90,6 +95,7 @@ sentinel_directives =
     ∷ (codes "auth-user", node_user_line)
     ∷ (codes "sentinel-pass", peer_pass_line)
     ∷ (codes "sentinel-user", peer_user_line)
+    ∷ (codes "master-reboot-down-after-period", reboot_line)
     ∷ (codes "resolve-hostnames", resolve_line)
     ∷ (codes "rename-command", rename_line)
     ∷ []
@@ -196,6 +202,10 @@ peer_pass_of _ = None
 abbrev pub peer_user_of : Setting → Option (List ℕ)
 peer_user_of (PeerUser user) = Some user
 peer_user_of _ = None
+
+abbrev pub reboot_of : List ℕ → Setting → Option ℕ
+reboot_of name (Reboot other ms) = some_if (same_bytes name other) ms
+reboot_of name _ = None
 
 abbrev pub clients_of : Setting → Option ℕ
 clients_of (MaxClients count) = Some count

@@ -1,7 +1,7 @@
 //! What a line says, by its directive.
 
 ghost use Rattle.std.specs.Prelude.{◌≡◌, IfOk};
-ghost use Rattle.sentinel_conf.specs.Watch.WatchLines.{yes_or_no, bind_line, node_pass_line, node_user_line, own_pass_line, peer_pass_line, peer_user_line, max_clients_line, timeout_line, protected_line, resolved, resolve_line, other_sentinel, sentinel_named, sentinel_line, named_or, other_directive, first_directives, has_mark, line_of_words, watch_line};
+ghost use Rattle.sentinel_conf.specs.Watch.WatchLines.{yes_or_no, bind_line, node_pass_line, node_user_line, own_pass_line, peer_pass_line, peer_user_line, reboot_line, max_clients_line, timeout_line, protected_line, resolved, resolve_line, other_sentinel, sentinel_named, sentinel_line, named_or, other_directive, first_directives, has_mark, line_of_words, watch_line};
 
 use crate::watch::binds::bound;
 use crate::watch::faults::WatchKind;
@@ -114,6 +114,26 @@ fn peer_user_line(alloc: Global, args: &[Text]) -> Result<WatchLine, NoMemory>
     Ok(WatchLine::Says(Setting::PeerUser(user)))
 }
 
+/// `sentinel master-reboot-down-after-period <name> <milliseconds>`.
+#[tactic(auto, using(ballot_law::specs::NameWords::name_is, ballot_law::specs::NameWords::name_not))]
+fn reboot_line(args: &[Text]) -> WatchLine
+    ensures { result ≡ reboot_line args.now }
+{
+    let [name, ms] = args else {
+        return WatchLine::Faulty(WatchKind::BadDirective);
+    };
+    let Some(name) = Name::from_slice(name.as_slice()) else {
+        return WatchLine::Faulty(WatchKind::BadName);
+    };
+    match number_of(ms.as_slice(), 0, COUNT_MAX) {
+        Some(ms) => WatchLine::Says(Setting::Reboot {
+            name,
+            ms: ms as u32,
+        }),
+        None => WatchLine::Faulty(WatchKind::BadNumber),
+    }
+}
+
 /// `maxclients <number>`.
 fn max_clients_line(args: &[Text]) -> WatchLine
     ensures { result ≡ max_clients_line args.now }
@@ -193,6 +213,9 @@ fn sentinel_named(alloc: Global, name: &Text, args: &[Text]) -> Result<WatchLine
     }
     if is_named(name, b"sentinel-user") {
         return peer_user_line(alloc, args);
+    }
+    if is_named(name, b"master-reboot-down-after-period") {
+        return Ok(reboot_line(args));
     }
     if is_named(name, b"resolve-hostnames") {
         return Ok(resolve_line(args));

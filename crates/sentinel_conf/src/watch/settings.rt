@@ -1,7 +1,7 @@
 //! What a line says that counts for `watch` alone.
 
 ghost use Rattle.std.specs.Prelude.{◌≡◌, None, Some, MatchOption};
-ghost use Rattle.sentinel_conf.specs.Watch.WatchLines.{binds_of, node_pass_of, node_user_of, own_pass_of, peer_pass_of, peer_user_of, clients_of, seconds_of, protected_of, default_of};
+ghost use Rattle.sentinel_conf.specs.Watch.WatchLines.{binds_of, node_pass_of, node_user_of, own_pass_of, peer_pass_of, peer_user_of, reboot_of, clients_of, seconds_of, protected_of, default_of};
 
 use crate::watch::binds::{Bind, Binds};
 use crate::watch::faults::WatchKind;
@@ -31,6 +31,9 @@ pub enum Setting {
     PeerPass(Text),
     /// `sentinel sentinel-user`: the user at the ports of the other Sentinels.
     PeerUser(Text),
+    /// `sentinel master-reboot-down-after-period`: for how many milliseconds a master that was started again may load
+    /// its data until it counts as down, 0 to 4,294,967,295; 0 is for ever.
+    Reboot { name: Name, ms: u32 },
     /// `maxclients`: how many connections of clients are asked for, 1 to 4,294,967,295; the port keeps `CLIENTS_MAX` of
     /// them at most.
     MaxClients(u32),
@@ -121,6 +124,21 @@ impl Setting {
     {
         match self {
             Setting::PeerUser(user) => Some(user.as_slice()),
+            _ => None,
+        }
+    }
+
+    /// For how many milliseconds the master of this name may load its data after a restart.
+    pub(crate) fn reboot_ms(&self, name: &Name) -> Option<u32>
+        ensures { result ≡ reboot_of name.now self.now }
+    {
+        match self {
+            Setting::Reboot { name: other, ms } => {
+                if is_same_bytes(name.as_slice(), other.as_slice()) {
+                    return Some(*ms);
+                }
+                None
+            }
             _ => None,
         }
     }

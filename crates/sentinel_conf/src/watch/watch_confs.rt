@@ -3,7 +3,7 @@
 ghost use Rattle.std.specs.Prelude.{◌≡◌, ◌⊎◌, ◌∷◌, [], true, false, None, Some, Ok, Err, ◌++◌, min, IfOk, OnOk, MatchResult};
 ghost use Rattle.ballot_law.specs.Cuts.{lines};
 ghost use Rattle.sentinel_conf.specs.Meaning.{last};
-ghost use Rattle.sentinel_conf.specs.Watch.WatchLines.{binds_of, node_pass_of, node_user_of, own_pass_of, peer_pass_of, peer_user_of, clients_of, seconds_of, protected_of};
+ghost use Rattle.sentinel_conf.specs.Watch.WatchLines.{binds_of, node_pass_of, node_user_of, own_pass_of, peer_pass_of, peer_user_of, reboot_of, clients_of, seconds_of, protected_of};
 ghost use Rattle.sentinel_conf.specs.Watch.Binds.{everywhere};
 ghost use Rattle.sentinel_conf.specs.Watch.WatchConfs.{no_memory, sent_pass, sent_user, says_other_hash, other_hash_line, other_password_line, settings_from, watch_settings};
 ghost use Rattle.sentinel_conf.specs.declared.watch.settings.TheConstants.{CLIENTS_MAX, IDLE_SECONDS, IDLE_SECONDS_MAX};
@@ -155,6 +155,16 @@ impl WatchConf {
             return b"";
         }
         self.peer_user()
+    }
+
+    /// For how many milliseconds the master of this name may load its data after a restart until it counts as
+    /// down: what its last line `sentinel master-reboot-down-after-period` says; 0, as without a line, is for ever.
+    pub fn reboot_ms(&self, name: &Name) -> u32
+        ensures { result ≡ last (reboot_of name.now) 0 self.now }
+    {
+        self.settings
+            .iter()
+            .fold(0, |ms, setting| setting.reboot_ms(name).unwrap_or(ms))
     }
 
     /// How many connections of clients the port keeps, 1 to `CLIENTS_MAX`: what the last line `maxclients` says. More

@@ -7,18 +7,19 @@ use Rattle.ballot_law.specs.declared.cards.KeptMaster.{KeptMaster}
 use Rattle.ballot_law.specs.Ballots.{card_of, kept_of, no_kept}
 use Rattle.ballot_law.specs.Orders.{same_id}
 use Rattle.ballot_law.specs.OwnVotes.{Book, asked}
-use Rattle.ballot_law.specs.Watches.{down_since_of}
+use Rattle.ballot_law.specs.Watches.{down_since_of, earlier_of}
 use Rattle.failover_states.specs.declared.states.Row.{Row}
 use Rattle.failover_states.specs.declared.states.Row.TheVariants.{Elected}
 use Rattle.failover_states.specs.Failovers.{Failover}
 use Rattle.failover_states.specs.Table.{Turn}
 use Rattle.vote_book.specs.Elections.{next_epoch}
+use Rattle.sentinel_rules.specs.Contacts.{since_after}
 use Rattle.sentinel_rules.specs.Parts.{Part, quiet, part_if}
-use Rattle.sentinel_rules.specs.Plans.{Plan, me, node_place, settings_at}
-use Rattle.sentinel_rules.specs.States.{Core, MasterState, NodeState, no_master, no_node, master_of, failover_of, is_failing_over, is_master_down, with_master, with_failover, with_current, is_wished}
+use Rattle.sentinel_rules.specs.Plans.{Plan, me, node_place, settings_at, reboot_ms}
+use Rattle.sentinel_rules.specs.States.{Core, MasterState, NodeState, no_master, no_node, master_of, failover_of, is_failing_over, is_master_down, is_odown_at, loading_since, with_master, with_failover, with_current, is_wished}
 use Rattle.sentinel_rules.specs.Profiles.{election_ms, marked_at, marked, rest_of, rested_at, rested}
 use Rattle.sentinel_rules.specs.Votes.{book_of, with_book, mark_for}
-use Rattle.sentinel_rules.specs.Ticks.{campaign_epoch, turn_of, with_vote, with_win, row_part, after_start, start_turn, start_part, planned_start, with_plan, planned_if}
+use Rattle.sentinel_rules.specs.Ticks.{campaign_epoch, turn_of, with_vote, with_win, row_part, after_start, start_turn, start_part, planned_start, with_plan, planned_if, odown_part}
 use Rattle.sentinel_state.specs.declared.states.State.{State}
 use Rattle.sentinel_state.specs.Parts.{with_part}
 use Rattle.failover_states.specs.Calls.{epoch_of}
@@ -118,7 +119,24 @@ seen_alike plan m now core core2 h =
     seen : Card → List NodeState → Bool
     seen card nodes =
         let place = node_place plan m card.addr in
-        is_some (down_since_of (slice_index_or nodes place no_node).watch now (settings_at plan m).after_ms (place == place))
+        let node = slice_index_or nodes place no_node in
+        is_some
+        (earlier_of (down_since_of node.watch now (settings_at plan m).after_ms (place == place))
+        (if place == place then loading_since node.rebooted (reboot_ms plan m) now else None))
+
+-- after it was kept whether the master is objectively down
+pub seen_after_odown : (old mid : State) (m now : ℕ) → mid ≡ with_part old (odown_part old.plan m now old.core)
+    → is_master_down mid.plan mid.core m now ≡ is_master_down old.plan old.core m now
+seen_after_odown old mid m now e =
+    ap (λ (s : State). is_master_down s.plan s.core m now) e
+    ∙ seen_alike old.plan m now old.core (odown_part old.plan m now old.core).core (same_nodes m old.core master refl)
+  where
+    master : MasterState
+    master =
+        record (master_of old.core m) {
+          odown = is_odown_at old.plan old.core m now;
+          odown_since = since_after (is_odown_at old.plan old.core m now) now (master_of old.core m).odown_since;
+        }
 
 -- after a start where one is due, and a row where a failover runs
 row_seen : (plan : Plan) (m now : ℕ) (core : Core) →

@@ -1,6 +1,6 @@
 //! The failover of a master: its start, and the row that it takes at each tick.
 
-ghost use Rattle.std.specs.Prelude.{◌≡◌, ◌<◌, ◌≤◌, true, false, IfSome, length};
+ghost use Rattle.std.specs.Prelude.{◌≡◌, ◌++◌, ◌<◌, ◌≤◌, true, false, IfSome, length};
 ghost use Rattle.ballot_law.specs.declared.rosters.TheConstants.{NODES_MAX};
 ghost use Rattle.ballot_law.specs.Clocks.{clock};
 ghost use Rattle.failover_states.specs.Calls.{choice_of};
@@ -9,8 +9,9 @@ ghost use Rattle.failover_states.specs.Replicas.{replica_at};
 ghost use Rattle.failover_states.specs.Table.{turned};
 ghost use Rattle.sentinel_rules.specs.Parts.{frames_from};
 ghost use Rattle.sentinel_rules.specs.Plans.{master_count};
-ghost use Rattle.sentinel_rules.specs.States.{failover_of, with_failover};
-ghost use Rattle.sentinel_rules.specs.Ticks.{known_of, turn_of, with_win, hands_over, order_to, promote_frames, order_frames, row_part, is_start_due, start_part, starts_now};
+ghost use Rattle.sentinel_rules.specs.Profiles.{with_pause};
+ghost use Rattle.sentinel_rules.specs.States.{failover_of, is_unrefused, with_failover};
+ghost use Rattle.sentinel_rules.specs.Ticks.{known_of, turn_of, with_vote, with_win, hands_over, order_to, promote_frames, order_frames, row_part, is_start_due, start_part, starts_now};
 ghost use Rattle.sentinel_state.specs.Parts.{with_part};
 ghost use Rattle.sentinel_state.specs.Nodes.Room.{added};
 ghost use Rattle.sentinel_core.specs.Inputs.Rows.{is_promotion, is_too_late, looked_at};
@@ -82,14 +83,33 @@ pub(crate) fn take_row(state: &mut State, m: u16, now: u64)
     ensures { state.new ≡ with_part state.old (row_part state.old.plan m (clock now) state.old.core) }
 {
     let epoch = state.core.campaign_epoch(m);
-    let planned = state.core.is_planned(m);
+    let switch = switch_of(&state.core, m);
     let hands_over = hands_over(state, m, now);
     let act = turn(state, m, now, false);
-    promote_choice(state, m, planned, hands_over, act.row);
+    put_orders(state, m, switch, hands_over, act.row);
+    end_row(&mut state.core, &state.plan, m, now, epoch, &act);
+}
+
+/// Tells the choice that it is the master, and replicas to follow the new one, where the row does.
+fn put_orders(state: &mut State, m: u16, switch: Switch, hands_over: bool, row: Option<Row>)
+    ensures { state.new ≡ record state.old {
+      frames = added state.old.frames
+          (promote_frames state.old.plan state.old.core m switch.unrefused hands_over row (choice_of (failover_of state.old.core m).state)
+          ++ frames_from (order_frames state.old.plan m) 0 (failover_of state.old.core m).replicas);
+    } }
+{
+    promote_choice(state, m, switch, hands_over, row);
     order_replicas(&state.core, &state.plan, m, &mut state.frames);
-    state.core.give_vote(&state.plan, m, now, epoch, act.vote);
-    note_win(&mut state.core, m, epoch, act.row);
-    state.core.rest_after(&state.plan, m, now, act.row);
+}
+
+/// Gives the vote of a row, notes an election that it won, and has the next campaign wait where it ends one.
+fn end_row(core: &mut Core, plan: &Plan, m: u16, now: u64, epoch: u64, act: &Act)
+    ensures { core.new ≡ with_pause plan.now m (clock now) act.now.row
+        (with_win m epoch act.now.row (with_vote plan.now m (clock now) epoch act.now.vote core.old)) }
+{
+    core.give_vote(plan, m, now, epoch, act.vote);
+    note_win(core, m, epoch, act.row);
+    core.rest_after(plan, m, now, act.row);
 }
 
 /// A turn of the failover: the facts that its rows don't look at are left out. Without a master with this number
@@ -150,6 +170,7 @@ fn facts<'a>(
 }
 
 /// Whether the master is told to hand over to the choice: in a switch that a client asked for, where it is up.
+#[tactic(auto, unfolding(sentinel_rules::specs::Ticks::hands_over))]
 fn hands_over(state: &State, m: u16, now: u64) -> bool
     ensures { result ≡ hands_over state.now.plan state.now.core m (clock now) }
 {
@@ -174,12 +195,29 @@ fn order_to(state: &State, m: u16, k: usize, hands_over: bool) -> Frame
     Frame::PromoteTo(state.plan.node_name(m, k))
 }
 
-/// Has the choice be the master, where the row does; a master that was to hand over, and didn't in time, is told to
-/// stay.
-fn promote_choice(state: &mut State, m: u16, planned: bool, hands_over: bool, row: Option<Row>)
+/// Of a failover: whether somebody wished for it, and whether the master didn't refuse to hand over in it.
+#[derive(Clone, Copy)]
+struct Switch {
+    planned: bool,
+    unrefused: bool,
+}
+
+/// What the failover of a master is as a switch.
+fn switch_of(core: &Core, m: u16) -> Switch
+    ensures { result.unrefused ≡ is_unrefused core.now m }
+{
+    Switch {
+        planned: core.is_planned(m),
+        unrefused: core.is_unrefused(m),
+    }
+}
+
+/// Has the choice be the master, where the row does; a master that was to hand over, and neither did in time nor
+/// refused, is told to stay.
+fn promote_choice(state: &mut State, m: u16, switch: Switch, hands_over: bool, row: Option<Row>)
     ensures { state.new ≡ record state.old {
       frames = added state.old.frames
-          (promote_frames state.old.plan state.old.core m planned hands_over row (choice_of (failover_of state.old.core m).state));
+          (promote_frames state.old.plan state.old.core m switch.unrefused hands_over row (choice_of (failover_of state.old.core m).state));
     } }
 {
     let choice = state.core.choice(m);
@@ -192,10 +230,12 @@ fn promote_choice(state: &mut State, m: u16, planned: bool, hands_over: bool, ro
         target: state.plan.node_name(m, place),
         heir: None,
     };
-    state.frames.push_if(planned && is_too_late(row), stay);
+    state
+        .frames
+        .push_if(switch.unrefused && is_too_late(row), stay);
     state
         .core
-        .note_master_if(planned && is_too_late(row), m, MasterNotice::Stays);
+        .note_master_if(switch.planned && is_too_late(row), m, MasterNotice::Stays);
 }
 
 /// Tells replicas to follow the new master, by address.

@@ -1,13 +1,14 @@
 //! What is kept of a data node.
 
-ghost use Rattle.std.specs.Prelude.{◌≡◌, map, unwrap_or};
+ghost use Rattle.std.specs.Prelude.{◌≡◌, None, if◌then◌else◌, map, unwrap_or};
 ghost use Rattle.ballot_law.specs.Clocks.{clock};
+ghost use Rattle.ballot_law.specs.Watches.{earlier_of, down_since_of};
 ghost use Rattle.sentinel_rules.specs.declared.assumed.TheConstants.{ASSUMED_INFO};
-ghost use Rattle.sentinel_rules.specs.News.{hello_soon, moved, node_announced, node_lost, node_pinged, with_info};
-ghost use Rattle.sentinel_rules.specs.States.{new_node};
+ghost use Rattle.sentinel_rules.specs.News.{hello_soon, moved, node_announced, node_lost, node_pinged, loading_after, is_another, rebooted_after, with_info};
+ghost use Rattle.sentinel_rules.specs.States.{new_node, loading_since};
 
 use crate::nodes::contacts::{hear_reply, new_contact, role_since};
-use ballot_law::{Info, PingReply, clock_of};
+use ballot_law::{Info, PingReply, RunId, clock_of};
 use down_detector::Watch;
 use replica_choice::Candidate;
 use sentinel_rules::{ASSUMED_INFO, Contact};
@@ -31,6 +32,8 @@ pub struct Node {
     pub wrong_address: Option<u64>,
     /// Whether of a connection to it was last heard that it was lost.
     pub lost: bool,
+    /// Since when it has been loading its data after a restart.
+    pub rebooted: Option<u64>,
     /// For those who ask: how its connection stands, since when it has said that it has its role, and whether it may be
     /// told to clients.
     pub contact: Contact,
@@ -54,6 +57,7 @@ impl Model for Node {
       wrong_role = node.wrong_role;
       wrong_address = node.wrong_address;
       lost = node.lost;
+      rebooted = node.rebooted;
       contact = node.contact;
       role_since = node.role_since;
       announced = node.announced;
@@ -70,10 +74,83 @@ impl Model for Node {
       wrong_role = node.wrong_role;
       wrong_address = node.wrong_address;
       lost = node.lost;
+      rebooted = node.rebooted;
       contact = node.contact;
       role_since = node.role_since;
       announced = node.announced;
     } };
+}
+
+/// The earlier of two moments.
+fn earlier_of(a: Option<u64>, b: Option<u64>) -> Option<u64>
+    ensures { result ≡ earlier_of a b }
+{
+    match (a, b) {
+        (Some(a), Some(b)) => Some(a.min(b)),
+        (Some(a), None) => Some(a),
+        (None, b) => b,
+    }
+}
+
+/// Since when a node that has been loading since a moment has been down for it.
+fn loading_since(since: Option<u64>, period: u64, at: u64) -> Option<u64>
+    ensures { result ≡ loading_since since period at }
+{
+    if period == 0 {
+        return None;
+    }
+    match since {
+        Some(since) => {
+            if at.saturating_sub(since) > period {
+                Some(since + period)
+            } else {
+                None
+            }
+        }
+        None => None,
+    }
+}
+
+/// Since when a node has been loading after a reply.
+fn loading_after(reply: PingReply, since: Option<u64>) -> Option<u64>
+    ensures { result ≡ loading_after reply since }
+{
+    match reply {
+        PingReply::Pong => None,
+        PingReply::Loading | PingReply::MasterDown | PingReply::Other => since,
+    }
+}
+
+/// Whether a node tells another run id than before.
+fn is_another(before: Option<RunId>, after: Option<RunId>) -> bool
+    ensures { result ≡ is_another before after }
+{
+    match (before, after) {
+        (Some(before), Some(after)) => !before.is_same(&after),
+        (Some(_), None) => false,
+        (None, _) => false,
+    }
+}
+
+/// Since when a node has been loading after an INFO with this run id.
+fn rebooted_after(
+    now: u64,
+    id: Option<RunId>,
+    before: Option<Info>,
+    since: Option<u64>,
+) -> Option<u64>
+    ensures { result ≡ rebooted_after (clock now) id before since }
+{
+    match before {
+        Some(before) => {
+            if is_another(before.id, id) {
+                Some(clock_of(now))
+            } else {
+                since
+            }
+        }
+        None => since,
+    }
 }
 
 impl Node {
@@ -92,6 +169,7 @@ impl Node {
             wrong_role: None,
             wrong_address: None,
             lost: false,
+            rebooted: None,
             contact: new_contact(now),
             role_since: clock_of(now),
             announced: true,
@@ -104,6 +182,7 @@ impl Node {
     {
         self.watch.heard(now, reply);
         self.lost = false;
+        self.rebooted = loading_after(reply, self.rebooted);
         hear_reply(&mut self.contact, now, reply);
         match reply {
             PingReply::Pong | PingReply::Loading | PingReply::MasterDown => {
@@ -118,6 +197,7 @@ impl Node {
         ensures { self.new ≡ with_info (clock now) info.now self.old }
     {
         self.role_since = role_since(now, info.role, self.info, self.role_since);
+        self.rebooted = rebooted_after(now, info.id, self.info, self.rebooted);
         self.info = Some(*info);
         self.info_at = Some(clock_of(now));
         self.watch.reported(now, info.role);
@@ -153,6 +233,26 @@ impl Node {
         self.hello_sent = None;
         self.wrong_role = None;
         self.wrong_address = None;
+        self.rebooted = None;
+    }
+
+    /// Since when it has been subjectively down, where it is to be the master or not, and may load its data for so long
+    /// after a restart.
+    pub fn down_since(
+        &self,
+        now: u64,
+        after_ms: u64,
+        as_master: bool,
+        reboot_ms: u64,
+    ) -> Option<u64>
+        ensures { result ≡ earlier_of (down_since_of self.now.watch (clock now) after_ms as_master)
+            (if as_master then loading_since self.now.rebooted reboot_ms (clock now) else None) }
+    {
+        let down = self.watch.sdown_since(now, after_ms, as_master);
+        if as_master {
+            return earlier_of(down, loading_since(self.rebooted, reboot_ms, clock_of(now)));
+        }
+        down
     }
 
     /// What is known of it as a replica to choose.

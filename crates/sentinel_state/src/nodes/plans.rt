@@ -9,19 +9,21 @@ ghost use Rattle.sentinel_rules.specs.Answers.{named};
 ghost use Rattle.sentinel_rules.specs.News.{is_heeded};
 ghost use Rattle.ballot_law.specs.NodePlaces.{first_number, node_numbered};
 ghost use Rattle.sentinel_rules.specs.Profiles.{candidate_place};
-ghost use Rattle.sentinel_rules.specs.Plans.{roster_of, me, group_size, master_count, settings_at, nodes_of, addr_at, node_place, node_name, node_named};
+ghost use Rattle.sentinel_rules.specs.Plans.{roster_of, me, group_size, master_count, settings_at, reboot_ms, nodes_of, addr_at, node_place, node_name, node_named};
 
 use ballot_law::{Addr, Hello, Member, Name, NodeName, NodePlace, Roster, RunId};
 use sentinel_conf::{Conf, DEFAULT_SETTINGS, Settings};
 use sentinel_rules::Profile;
 use std::marker::Model;
 
-/// What a Sentinel's file says, the Sentinel's place in the roster, and by which rules it works.
+/// What a Sentinel's file says, the Sentinel's place in the roster, by which rules it works, and for how many
+/// milliseconds each master may load its data after a restart, by the master's number; 0 is for ever.
 #[derive(Drop)]
 pub struct Plan {
     conf: Conf,
     place: u16,
     profile: Profile,
+    reboots: Vec<u64>,
 }
 
 impl Model for Plan {
@@ -32,7 +34,7 @@ impl Model for Plan {
 
     ghost Value = { PlanModel };
 
-    ghost view = { λ plan. record { conf = plan.conf; place = plan.place; profile = plan.profile } };
+    ghost view = { λ plan. record { conf = plan.conf; place = plan.place; profile = plan.profile; reboots = plan.reboots.items } };
 
     ghost invariant = { λ plan. IsSoundConf plan.conf
         × (plan.place < length plan.conf.roster.sentinels)
@@ -48,10 +50,12 @@ pub(crate) fn position_of(nodes: &[Addr], addr: Addr) -> Option<usize>
 }
 
 impl Plan {
-    /// The plan of this conf, by the rules of this profile, with no memory taken.
-    pub fn new(conf: Conf, profile: Profile) -> Plan
+    /// The plan of this conf, by the rules of this profile, where masters may load their data for so long after a
+    /// restart, with no memory taken.
+    pub fn new(conf: Conf, profile: Profile, reboots: Vec<u64>) -> Plan
         ensures conf { result.conf ≡ conf }
         ensures profile { result.profile ≡ profile }
+        ensures reboots { result.reboots ≡ reboots.items }
     {
         let place = conf.place();
         let _sound = conf.roster();
@@ -59,6 +63,7 @@ impl Plan {
             conf,
             place,
             profile,
+            reboots,
         }
     }
 
@@ -126,6 +131,16 @@ impl Plan {
         ensures { result ≡ settings_at self.now m }
     {
         self.conf.settings(m).unwrap_or(DEFAULT_SETTINGS)
+    }
+
+    /// For how many milliseconds a master may load its data after a restart; 0 is for ever.
+    pub fn reboot_ms(&self, m: u16) -> u64
+        ensures { result ≡ reboot_ms self.now m }
+    {
+        match self.reboots.get(m as usize) {
+            Some(ms) => *ms,
+            None => 0,
+        }
     }
 
     /// The data nodes of a master, by address; none where there is no such master.

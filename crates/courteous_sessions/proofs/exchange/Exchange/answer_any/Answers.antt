@@ -2,8 +2,8 @@ use Rattle.resp2.specs.Framing.Frame.{view}
 use Rattle.courteous_sessions.proofs.Stepping.{read_frame, step_answered}
 use Rattle.courteous_sessions.proofs.exchange.Exchange.answer_any.Goals as goal
 
-pub answer_value-requires-clause-frame : goal.answer_value-requires-clause-frame
-answer_value-requires-clause-frame g c = (
+pub tell_value-requires-clause-frame : goal.tell_value-requires-clause-frame
+tell_value-requires-clause-frame g c = (
   read_frame view c.in-Ok-Some.value c.args.self.now.attendant.held c.next.new.self.held c.requires.ready.reads (rw c.in-Ok-Some.field-0-is at c.in-Ok-Some.ensures.exact),
   rw c.in-Ok-Some.field-0-is at c.in-Ok-Some.ensures.lines,
 )
@@ -11,7 +11,7 @@ answer_value-requires-clause-frame g c = (
 pub returns-in-Ok-clause-answered : goal.returns-in-Ok-clause-answered
 returns-in-Ok-clause-answered g c = λ stream first bytes visitor is a.
     let before = c.args.self.now in
-    let after = c.answer_value.new.self in
+    let after = c.tell_value.new.self in
     step_answered c.args.cell.now.start c.args.now view c.in-Ok-Some.value stream first bytes visitor before.attendant c.next.new.self after.attendant before.subscriptions
-    after.subscriptions before.unsent.items after.unsent.items before.session after.session c.args.seat.now.view c.answer_value.new.seat.view is a c.requires.ready
+    after.subscriptions before.unsent.items after.unsent.items before.session after.session c.args.seat.now.view c.tell_value.new.seat.view is a c.requires.ready
     (rw c.in-Ok-Some.field-0-is at c.in-Ok-Some.ensures.exact) c.next.ensures.asker c.in-Ok.ensures.held c.in-Ok.ensures.served

@@ -3,11 +3,12 @@ use Rattle.std.specs.Prelude.{not}
 use Rattle.ballot_law.specs.Clocks.{clock}
 use Rattle.sentinel_rules.specs.Parts.{Part, part_if, then_part}
 use Rattle.sentinel_rules.specs.Plans.{Plan}
-use Rattle.sentinel_rules.specs.States.{Core, is_tilted}
+use Rattle.sentinel_rules.specs.States.{Core, is_node_down, is_tilted}
 use Rattle.sentinel_rules.specs.Ticks.{odown_part, failover_part, judging_part}
 use Rattle.sentinel_state.specs.declared.states.State.{State}
 use Rattle.sentinel_state.specs.Parts.{with_part}
 use Rattle.sentinel_core.proofs.InputsLemmas.PartSteps.{then_parts, part_unless}
+use Rattle.sentinel_core.proofs.InputsLemmas.Sights.{seen_after_odown}
 use Rattle.sentinel_core.proofs.inputs.ticks.judge_master.Goals as goal
 
 -- in TILT nothing is judged
@@ -17,6 +18,14 @@ unjudged old m now tilted in_tilt told =
 
 pub returns-then-is_tilted : goal.returns-then-is_tilted
 returns-then-is_tilted c = unjudged c.args.state.now c.args.m (clock c.args.now) c.is_tilted.result c.if-is_tilted.true c.is_tilted.ensures
+
+pub fail_over-requires-clause-down : goal.fail_over-requires-clause-down
+fail_over-requires-clause-down c =
+    let old = c.args.state.now in
+    let m = c.args.m in
+    let now = clock c.args.now in
+    c.is_node_down-down.ensures ∙ ap (λ k. is_node_down old.plan old.core m now k) c.requires.place
+    ∙ sym (seen_after_odown old c.find_odown.new.state m now c.find_odown.ensures)
 
 pub returns : goal.returns
 returns c =

@@ -18,9 +18,10 @@ returns c =
       wrong_role = i.wrong_role;
       wrong_address = i.wrong_address;
       lost = i.lost;
+      rebooted = i.rebooted;
       contact = i.contact;
       role_since = i.role_since;
       announced = i.announced;
     } in
-    ap (λ watch. let n : NodeState = record node { watch = watch; hello_sent = None; wrong_role = None; wrong_address = None } in n) c.card_changed.ensures.kept
+    ap (λ watch. let n : NodeState = record node { watch = watch; hello_sent = None; wrong_role = None; wrong_address = None; rebooted = None } in n) c.card_changed.ensures.kept
     ∙ ap (moved (clock c.args.now)) c.self.view_is

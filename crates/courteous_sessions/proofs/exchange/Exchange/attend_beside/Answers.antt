@@ -1,0 +1,23 @@
+use Rattle.std.proofs.Common.{◌∙◌}
+use Rattle.client_commands.specs.Courtesies.{courtesy, asker_after}
+use Rattle.resp2.specs.Framing.Frame.{view}
+use Rattle.courteous_sessions.proofs.Serving.{noted, answered_beside, asked_beside}
+use Rattle.courteous_sessions.proofs.exchange.Exchange.attend_beside.Goals as goal
+
+pub returns-in_ok-answer_beside-in-Ok-clause-served : goal.returns-in_ok-answer_beside-in-Ok-clause-served
+returns-in_ok-answer_beside-in-Ok-clause-served g c =
+    let before = c.args.self.now in
+    let mid = c.answer_beside.new.self in
+    let after = c.note_listening.new.self in
+    let value = view c.args.value.now in
+    let l = before.subscriptions in
+    let known = noted mid.attendant after.attendant l mid.subscriptions (asker_after before.attendant.asker value) c.note_listening.ensures.attendant
+    c.answer_beside.ensures.kept.1 (c.answer_beside.ensures.same.asker ∙ c.in-Ok.ensures.asker)
+    in
+    rw (c.note_listening.ensures.session, c.note_listening.ensures.unsent, c.note_listening.ensures.kept.1)
+    (answered_beside c.args.cell.now.start c.args.now before.attendant after.attendant l mid.subscriptions before.session mid.session
+    c.args.seat.now.view c.answer_beside.new.seat.view value before.unsent.items mid.unsent.items c.requires.ready c.requires.other known.0 known.1
+    (known.2 ∙ c.answer_beside.ensures.same.held ∙ c.attend_to.ensures.held) c.answer_beside.ensures.session c.answer_beside.ensures.kept.1
+    (asked_beside c.args.cell.now.start c.args.now before.attendant.asker c.attend_to.new.self.asker value (courtesy before.attendant.asker value) before.unsent.items
+    mid.unsent.items c.args.seat.now.view c.answer_beside.new.seat.view c.in-Ok.ensures.asker
+    (c.in_ok-answer_beside-in-Ok.ensures.answered (courtesy before.attendant.asker value) c.in-Ok.ensures.kind c.in-Ok.ensures.text)))

@@ -1,0 +1,43 @@
+use Rattle.std.proofs.Common.{◌≡◌, ◌∙◌, sym, subst, take, drop}
+use Rattle.std.specs.Prelude.{OnOk}
+use Rattle.client_commands.specs.declared.protocols.Protocol.TheVariants.{Two, Three}
+use Rattle.resp2.specs.Framing.Frame.{view}
+use Rattle.courteous_sessions.specs.declared.shapes.Shape.{Shape}
+use Rattle.courteous_sessions.specs.OnTheWay.{guest_of}
+use Rattle.courteous_sessions.specs.Retelling.{JoinsTold}
+use Rattle.courteous_sessions.proofs.Stepping.{on_ok, tells_in_two, tells_in_three, is_behind, none_told_of}
+use Rattle.courteous_sessions.proofs.exchange.Exchange.tell_value.Goals as goal
+
+pub returns-in-Two-clause-served : goal.returns-in-Two-clause-served
+returns-in-Two-clause-served g c =
+    let before = c.args.self.now in
+    let after = c.answer_value.new.self in
+    tells_in_two c.args.cell.now.start c.args.now (guest_of before.attendant before.subscriptions before.session c.args.seat.now.view) after.attendant after.subscriptions
+    after.session c.answer_value.new.seat.view (view c.args.value.now) before.unsent.items after.unsent.items (sym c.protocol.ensures ∙ c.in-Two.is)
+    c.in_ok-answer_value.ensures.served
+
+pub retell-requires : goal.retell-requires
+retell-requires g c =
+    let got = c.in_ok-answer_value.ensures.served in
+    is_behind c.len-start.result c.args.self.now.unsent.items c.answer_value.new.self.unsent.items got.0 c.len-start.ensures.value got.1
+
+pub returns-in-Three-clause-served : goal.returns-in-Three-clause-served
+returns-in-Three-clause-served g c =
+    let before = c.args.self.now in
+    let mid = c.answer_value.new.self in
+    let after = c.retell.new.self in
+    on_ok c.retell.result
+    (λ told.
+    tells_in_three c.args.cell.now.start c.args.now (guest_of before.attendant before.subscriptions before.session c.args.seat.now.view) mid.attendant after.attendant
+    mid.subscriptions after.subscriptions mid.session after.session c.answer_value.new.seat.view (view c.args.value.now) before.unsent.items mid.unsent.items
+    after.unsent.items c.len-start.result c.len-start.ensures.value (sym c.protocol.ensures ∙ c.in-Three.is) c.retell.ensures.attendant c.retell.ensures.kept.1 c.retell.ensures.session
+    c.in_ok-answer_value.ensures.served told)
+    (subst (λ (shape : Shape). OnOk c.retell.result
+    (JoinsTold Three shape (drop c.len-start.result mid.unsent.items) (take c.len-start.result mid.unsent.items) after.unsent.items))
+    c.shape_of.ensures c.retell.ensures.ok)
+
+pub returns-in-Three-clause-fault : goal.returns-in-Three-clause-fault
+returns-in-Three-clause-fault g c =
+    let got = c.in_ok-answer_value.ensures.served in
+    none_told_of c.retell.result c.len-start.result c.args.self.now.unsent.items c.answer_value.new.self.unsent.items got.0 c.retell.new.self.unsent.items c.len-start.ensures.value got.1
+    c.retell.ensures.err c.retell.ensures.fault
