@@ -1,6 +1,6 @@
-// Asks a port the same command over and over: PORT PROCESSES CONNECTIONS PIPELINE ROUNDS WORD..
+// Asks a port the same command over and over: PROTOCOL PORT PROCESSES CONNECTIONS PIPELINE ROUNDS WORD..
 //
-// Each process has its share of the connections. In a round it writes PIPELINE commands to each connection, and then reads their answers from each,
+// PROTOCOL is 2 or 3; with 3 each connection begins with HELLO 3. Each process has its share of the connections. In a round it writes PIPELINE commands to each connection, and then reads their answers from each,
 // so that the server never waits for it. What the first answer has as its length, each has. Prints how many requests a second were answered.
 #include <arpa/inet.h>
 #include <netinet/tcp.h>
@@ -67,14 +67,29 @@ static size_t answer_length(int connection, const char *command, size_t length)
     return count;
 }
 
-static void ask(int port, int connections, int pipeline, int rounds, const char *command, size_t length)
+static void begin_resp3(int connection)
+{
+    static const char hello[] = "*2\r\n$5\r\nHELLO\r\n$1\r\n3\r\n";
+    char room[4096];
+    write_all(connection, hello, sizeof hello - 1);
+    stop_if(read(connection, room, sizeof room) <= 0, "read");
+    if (room[0] != '%') {
+        fputs("the answer to HELLO 3 is no map\n", stderr);
+        exit(1);
+    }
+}
+
+static void ask(int protocol, int port, int connections, int pipeline, int rounds, const char *command, size_t length)
 {
     int open[MOST];
     char *batch = malloc(length * pipeline);
     for (int place = 0; place < pipeline; place++)
         memcpy(batch + place * length, command, length);
-    for (int place = 0; place < connections; place++)
+    for (int place = 0; place < connections; place++) {
         open[place] = connected(port);
+        if (protocol == 3)
+            begin_resp3(open[place]);
+    }
     size_t answer = answer_length(open[0], command, length);
     for (int round = 0; round < rounds; round++) {
         for (int place = 0; place < connections; place++)
@@ -86,18 +101,19 @@ static void ask(int port, int connections, int pipeline, int rounds, const char 
 
 int main(int count, char **words)
 {
-    if (count < 7)
+    if (count < 8)
         return 2;
-    int port = atoi(words[1]), processes = atoi(words[2]), connections = atoi(words[3]), pipeline = atoi(words[4]), rounds = atoi(words[5]);
+    int protocol = atoi(words[1]), port = atoi(words[2]), processes = atoi(words[3]);
+    int connections = atoi(words[4]), pipeline = atoi(words[5]), rounds = atoi(words[6]);
     char command[4096];
-    size_t length = sprintf(command, "*%d\r\n", count - 6);
-    for (int place = 6; place < count; place++)
+    size_t length = sprintf(command, "*%d\r\n", count - 7);
+    for (int place = 7; place < count; place++)
         length += sprintf(command + length, "$%zu\r\n%s\r\n", strlen(words[place]), words[place]);
     double began = now();
     for (int place = 0; place < processes; place++) {
         int share = connections / processes + (place < connections % processes);
         if (fork() == 0) {
-            ask(port, share, pipeline, rounds, command, length);
+            ask(protocol, port, share, pipeline, rounds, command, length);
             _exit(0);
         }
     }
