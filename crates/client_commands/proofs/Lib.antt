@@ -8,6 +8,9 @@ pub mod LineStreams
 pub mod Lookups
 pub mod OwnValues
 pub mod Parts
+pub mod PlainLines
 pub mod Silence
 pub mod Strangers
 pub mod SubBytes
+pub mod TableBytes
+pub mod TableLines
