@@ -2,7 +2,7 @@
 use Rattle.std.proofs.Common.{◌≡◌, ◌∙◌, ◌+◌, ◌*◌, ◌≤◌, ◌||◌, ℕ, zero, suc, ℤ, pos, Bool, List, [], ◌∷◌, ◌++◌, length, map, decimal, refl, sym, ap, arith, append_assoc, append-nil, codes}
 use Rattle.std.specs.List.{list_any}
 use Rattle.resp2.specs.Framing.Frame.{Frame, FrameList, simple, fault, int, bulk, null_bulk, items, null_items, no_frames, frame, frames_of, count, line_end, spelling, spellings}
-use Rattle.client_commands.specs.declared.rows.Listed.{Listed}
+use Rattle.client_commands.specs.declared.rows.KnownCommand.{KnownCommand}
 use Rattle.client_commands.specs.declared.classes.Class.{Class}
 use Rattle.client_commands.specs.Pieces.{Part, header, text, mark, other, parts_of, all_parts_of, bytes_of, all_bytes_of}
 use Rattle.client_commands.specs.Rows.{name, arity, class_of, flags, categories, tips, subs_of}
@@ -40,13 +40,13 @@ pub texts_are : (n : ℕ) (parts : List Part) (words : List (List ℕ)) → n �
     → (42 ∷ (decimal n ++ line_end)) ++ all_bytes_of parts ≡ spelling (texts words)
 texts_are n parts words size is = headed n (all_bytes_of parts) (frames_of (map bulk words)) (size ∙ count_texts words) (ap all_bytes_of is ∙ text_bytes words)
 
-count_names : (listed : List Listed) → length listed ≡ count (frames_of (map bulk (names_of listed)))
+count_names : (commands : List KnownCommand) → length commands ≡ count (frames_of (map bulk (names_of commands)))
 count_names [] = refl
-count_names (next ∷ listed) = ap suc (count_names listed)
+count_names (next ∷ commands) = ap suc (count_names commands)
 
-pub names_are : (listed : List Listed)
-    → (42 ∷ (decimal (length listed) ++ line_end)) ++ spellings (frames_of (map bulk (names_of listed))) ≡ spelling (texts (names_of listed))
-names_are listed = headed (length listed) _ (frames_of (map bulk (names_of listed))) (count_names listed) refl
+pub names_are : (commands : List KnownCommand)
+    → (42 ∷ (decimal (length commands) ++ line_end)) ++ spellings (frames_of (map bulk (names_of commands))) ≡ spelling (texts (names_of commands))
+names_are commands = headed (length commands) _ (frames_of (map bulk (names_of commands))) (count_names commands) refl
 
 -- a mark of a category is found among the marks as it is among the categories
 pub marks_any : (word : List ℕ) (parts : List Part) (words : List (List ℕ)) → parts ≡ map mark words
@@ -71,8 +71,8 @@ class_bytes class =
     ++ ((zero_bytes ++ (zero_bytes ++ zero_bytes)) ++ (spelling (marks (categories class)) ++ (spelling (texts (tips class)) ++ none_told)))
 
 -- the begin of a row
-abbrev pub name_bytes : Listed → List ℕ
-name_bytes listed = (42 ∷ (decimal 10 ++ line_end)) ++ (spelling (bulk (name listed)) ++ spelling (int (arity listed)))
+abbrev pub name_bytes : KnownCommand → List ℕ
+name_bytes command = (42 ∷ (decimal 10 ++ line_end)) ++ (spelling (bulk (name command)) ++ spelling (int (arity command)))
 
 joined_row : (h n a f z c t e s : List ℕ)
     → (h ++ (n ++ a)) ++ ((f ++ ((z ++ (z ++ z)) ++ (c ++ (t ++ e)))) ++ s) ≡ h ++ (n ++ (a ++ (f ++ (z ++ (z ++ (z ++ (c ++ (t ++ (e ++ (s ++ []))))))))))
@@ -93,24 +93,24 @@ joined_row h n a f z c t e s =
     (append_assoc n a ((f ++ ((z ++ (z ++ z)) ++ (c ++ (t ++ e)))) ++ s) ∙ ap (λ (x : List ℕ). n ++ (a ++ x)) middle)
 
 -- a row is the begin, its class and its subcommands
-pub row_is : (listed : Listed) (subs : FrameList) → name_bytes listed ++ (class_bytes (class_of listed) ++ spelling (items subs)) ≡ spelling (row_with listed subs)
-row_is listed subs =
-    joined_row (42 ∷ (decimal 10 ++ line_end)) (spelling (bulk (name listed))) (spelling (int (arity listed))) (spelling (marks (flags (class_of listed)))) zero_bytes
-    (spelling (marks (categories (class_of listed)))) (spelling (texts (tips (class_of listed)))) none_told (spelling (items subs))
+pub row_is : (command : KnownCommand) (subs : FrameList) → name_bytes command ++ (class_bytes (class_of command) ++ spelling (items subs)) ≡ spelling (row_with command subs)
+row_is command subs =
+    joined_row (42 ∷ (decimal 10 ++ line_end)) (spelling (bulk (name command))) (spelling (int (arity command))) (spelling (marks (flags (class_of command)))) zero_bytes
+    (spelling (marks (categories (class_of command)))) (spelling (texts (tips (class_of command)))) none_told (spelling (items subs))
 
-count_subs : (subs : List Listed) → length subs ≡ count (sub_rows subs)
+count_subs : (subs : List KnownCommand) → length subs ≡ count (sub_rows subs)
 count_subs [] = refl
 count_subs (sub ∷ subs) = ap suc (count_subs subs)
 
-pub subs_are : (subs : List Listed) → (42 ∷ (decimal (length subs) ++ line_end)) ++ spellings (sub_rows subs) ≡ spelling (items (sub_rows subs))
+pub subs_are : (subs : List KnownCommand) → (42 ∷ (decimal (length subs) ++ line_end)) ++ spellings (sub_rows subs) ≡ spelling (items (sub_rows subs))
 subs_are subs = headed (length subs) _ (sub_rows subs) (count_subs subs) refl
 
-count_rows : (listed : List Listed) → length listed ≡ count (all_rows listed)
+count_rows : (commands : List KnownCommand) → length commands ≡ count (all_rows commands)
 count_rows [] = refl
-count_rows (next ∷ listed) = ap suc (count_rows listed)
+count_rows (next ∷ commands) = ap suc (count_rows commands)
 
-pub rows_are : (listed : List Listed) → (42 ∷ (decimal (length listed) ++ line_end)) ++ spellings (all_rows listed) ≡ spelling (items (all_rows listed))
-rows_are listed = headed (length listed) _ (all_rows listed) (count_rows listed) refl
+pub rows_are : (commands : List KnownCommand) → (42 ∷ (decimal (length commands) ++ line_end)) ++ spellings (all_rows commands) ≡ spelling (items (all_rows commands))
+rows_are commands = headed (length commands) _ (all_rows commands) (count_rows commands) refl
 
 count_named : (words : List (List ℕ)) → length words ≡ count (rows_named words)
 count_named [] = refl
@@ -159,11 +159,11 @@ last_pair (pair ∷ pairs) last =
     ∙ ap (λ (t : List ℕ). spelling pair.0 ++ t) (sym (append_assoc (spelling pair.1) rest end)) ∙ sym (append_assoc (spelling pair.0) (spelling pair.1 ++ rest) end)
 
 -- the fields of a command, as they are said by themselves
-pub fields_are : (listed : Listed)
-    → (42 ∷ (decimal (length (fields listed) * 2 + 0) ++ line_end)) ++ all_bytes_of (all_parts_of (pairs_of (fields listed))) ≡ spelling (description listed [])
-fields_are listed =
-    headed (length (fields listed) * 2 + 0) _ (pairs_of (fields listed)) (omega (arith, count_pairs (fields listed))) (parts_spelled (pairs_of (fields listed)))
-    ∙ ap (λ (pairs : List (Frame × Frame)). spelling (items (pairs_of pairs))) (sym (append-nil (fields listed)))
+pub fields_are : (command : KnownCommand)
+    → (42 ∷ (decimal (length (fields command) * 2 + 0) ++ line_end)) ++ all_bytes_of (all_parts_of (pairs_of (fields command))) ≡ spelling (description command [])
+fields_are command =
+    headed (length (fields command) * 2 + 0) _ (pairs_of (fields command)) (omega (arith, count_pairs (fields command))) (parts_spelled (pairs_of (fields command)))
+    ∙ ap (λ (pairs : List (Frame × Frame)). spelling (items (pairs_of pairs))) (sym (append-nil (fields command)))
 
 -- and with the subcommands after them
 with_last : (pairs : List (Frame × Frame)) (key value : Frame) (bytes : List ℕ) → bytes ≡ spelling value
@@ -177,36 +177,36 @@ with_last pairs key value bytes is =
     (ap (λ (t : List ℕ). t ++ (spelling key ++ bytes)) (parts_spelled (pairs_of pairs))
     ∙ ap (λ (t : List ℕ). spellings (pairs_of pairs) ++ (spelling key ++ t)) is ∙ sym (last_pair pairs (key, value)))
 
-length_subs : (subs : List Listed) → length subs ≡ length (sub_descriptions subs)
+length_subs : (subs : List KnownCommand) → length subs ≡ length (sub_descriptions subs)
 length_subs [] = refl
 length_subs (sub ∷ subs) = ap suc (length_subs subs)
 
-length_described : (listed : List Listed) → length listed ≡ length (described listed)
+length_described : (commands : List KnownCommand) → length commands ≡ length (described commands)
 length_described [] = refl
-length_described (next ∷ listed) = ap suc (length_described listed)
+length_described (next ∷ commands) = ap suc (length_described commands)
 
-sub_descriptions_are : (subs : List Listed)
+sub_descriptions_are : (subs : List KnownCommand)
     → (42 ∷ (decimal (length subs * 2) ++ line_end)) ++ spellings (pairs_of (sub_descriptions subs)) ≡ spelling (items (pairs_of (sub_descriptions subs)))
 sub_descriptions_are subs =
     headed (length subs * 2) _ (pairs_of (sub_descriptions subs))
     (ap (λ (n : ℕ). n * 2) (length_subs subs) ∙ count_pairs (sub_descriptions subs)) refl
 
-pub family_is : (listed : Listed) (subs : List Listed)
-    → ((42 ∷ (decimal (length (fields listed) * 2 + 2) ++ line_end)) ++ all_bytes_of (all_parts_of (pairs_of (fields listed))))
+pub family_is : (command : KnownCommand) (subs : List KnownCommand)
+    → ((42 ∷ (decimal (length (fields command) * 2 + 2) ++ line_end)) ++ all_bytes_of (all_parts_of (pairs_of (fields command))))
     ++ (spelling (bulk (codes "subcommands")) ++ ((42 ∷ (decimal (length subs * 2) ++ line_end)) ++ spellings (pairs_of (sub_descriptions subs))))
-    ≡ spelling (family_description listed subs)
-family_is listed subs = with_last (fields listed) (bulk (codes "subcommands")) (items (pairs_of (sub_descriptions subs))) _ (sub_descriptions_are subs)
+    ≡ spelling (family_description command subs)
+family_is command subs = with_last (fields command) (bulk (codes "subcommands")) (items (pairs_of (sub_descriptions subs))) _ (sub_descriptions_are subs)
 
-pub docs_are : (listed : List Listed)
-    → (42 ∷ (decimal (length listed * 2) ++ line_end)) ++ spellings (pairs_of (described listed)) ≡ spelling (items (pairs_of (described listed)))
-docs_are listed =
-    headed (length listed * 2) _ (pairs_of (described listed)) (ap (λ (n : ℕ). n * 2) (length_described listed) ∙ count_pairs (described listed)) refl
+pub docs_are : (commands : List KnownCommand)
+    → (42 ∷ (decimal (length commands * 2) ++ line_end)) ++ spellings (pairs_of (described commands)) ≡ spelling (items (pairs_of (described commands)))
+docs_are commands =
+    headed (length commands * 2) _ (pairs_of (described commands)) (ap (λ (n : ℕ). n * 2) (length_described commands) ∙ count_pairs (described commands)) refl
 
 -- ---- where there is one at least
 
-pub family_described : (listed : Listed) (subs : List Listed) → 1 ≤ length subs → described_with listed subs ≡ family_description listed subs
-family_described listed [] h = absurd (omega (arith, h))
-family_described listed (sub ∷ subs) h = refl
+pub family_described : (command : KnownCommand) (subs : List KnownCommand) → 1 ≤ length subs → described_with command subs ≡ family_description command subs
+family_described command [] h = absurd (omega (arith, h))
+family_described command (sub ∷ subs) h = refl
 
 pub info_named : (words : List (List ℕ)) → 1 ≤ length words → command_info words ≡ items (rows_named words)
 info_named [] h = absurd (omega (arith, h))

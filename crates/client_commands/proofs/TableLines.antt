@@ -4,12 +4,12 @@ use Rattle.std.specs.Prelude.{codes}
 use Rattle.std.specs.List.{list_all}
 use Rattle.ballot_law.specs.Words.{lower}
 use Rattle.resp2.specs.Framing.Frame.{Frame, FrameList, simple, bulk, items, no_frames, frame, frames_of, HasLines, HaveLines}
-use Rattle.client_commands.specs.declared.rows.Listed.{Listed}
-use Rattle.client_commands.specs.declared.rows.Listed.TheVariants.{Ping, Hello, Auth, Client, Command, Role, Publish, Info, Sentinel, Subscribe, Unsubscribe, PSubscribe, PUnsubscribe, ClientSetName, ClientGetName, ClientId, ClientList, ClientInfo, ClientKill, ClientNoEvict, ClientReply, ClientHelp, CommandCount, CommandDocs, CommandInfo, CommandList, CommandHelp, SentinelMasters, SentinelMaster, SentinelReplicas, SentinelSlaves, SentinelSentinels, SentinelMyId, SentinelCkQuorum, SentinelFailover, SentinelFlushConfig, SentinelGetMasterAddr, SentinelIsMasterDown, SentinelHelp, SentinelPendingScripts, SentinelInfoCache, SentinelConfig}
+use Rattle.client_commands.specs.declared.rows.KnownCommand.{KnownCommand}
+use Rattle.client_commands.specs.declared.rows.KnownCommand.TheVariants.{Ping, Hello, Auth, Client, Command, Role, Publish, Info, Sentinel, Subscribe, Unsubscribe, PSubscribe, PUnsubscribe, ClientSetName, ClientGetName, ClientId, ClientList, ClientInfo, ClientKill, ClientNoEvict, ClientReply, ClientHelp, CommandCount, CommandDocs, CommandInfo, CommandList, CommandHelp, SentinelMasters, SentinelMaster, SentinelReplicas, SentinelSlaves, SentinelSentinels, SentinelMyId, SentinelCkQuorum, SentinelFailover, SentinelFlushConfig, SentinelGetMasterAddr, SentinelIsMasterDown, SentinelHelp, SentinelPendingScripts, SentinelInfoCache, SentinelConfig}
 use Rattle.client_commands.specs.declared.classes.Class.{Class}
 use Rattle.client_commands.specs.declared.classes.Class.TheVariants.{Probe, Greeting, Container, Table, Status, Publishing, Figures, Ruled, Listening, Own, Clients, OwnLine, Control, Counting, Advice}
 use Rattle.client_commands.specs.Refusals.{is_called, syntax_error}
-use Rattle.client_commands.specs.Rows.{families, all_listed, subs_of, class_of, flags, categories, tips}
+use Rattle.client_commands.specs.Rows.{families, all_commands, subs_of, class_of, flags, categories, tips}
 use Rattle.client_commands.specs.Descriptions.{fields, pairs_of}
 use Rattle.client_commands.specs.Tables.{named, row_with, sub_rows, row, all_rows, table, row_or_null, rows_named, command_info, description, sub_descriptions, family_description, described_with, described, found_by, command_docs, names_of, in_category, matching, filtered_by, command_list}
 use Rattle.client_commands.proofs.PlainLines.{is_plain_byte, checked, told_have_lines, names_lines, have_plain_lines, values_checked}
@@ -53,9 +53,9 @@ categories_plain Control = refl
 categories_plain Counting = refl
 categories_plain Advice = refl
 
-row_lines : (listed : Listed) (subs : FrameList) → HaveLines subs → HasLines (row_with listed subs)
-row_lines listed subs h =
-    let class = class_of listed in (
+row_lines : (command : KnownCommand) (subs : FrameList) → HaveLines subs → HasLines (row_with command subs)
+row_lines command subs h =
+    let class = class_of command in (
       tt,
       (
         tt,
@@ -66,24 +66,24 @@ row_lines listed subs h =
       ),
     )
 
-sub_rows_lines : (subs : List Listed) → HaveLines (sub_rows subs)
+sub_rows_lines : (subs : List KnownCommand) → HaveLines (sub_rows subs)
 sub_rows_lines [] = tt
 sub_rows_lines (sub ∷ subs) = (row_lines sub no_frames tt, sub_rows_lines subs)
 
-all_rows_lines : (listed : List Listed) → HaveLines (all_rows listed)
+all_rows_lines : (commands : List KnownCommand) → HaveLines (all_rows commands)
 all_rows_lines [] = tt
-all_rows_lines (next ∷ listed) = (row_lines next (sub_rows (subs_of next)) (sub_rows_lines (subs_of next)), all_rows_lines listed)
+all_rows_lines (next ∷ commands) = (row_lines next (sub_rows (subs_of next)) (sub_rows_lines (subs_of next)), all_rows_lines commands)
 
 pub table_lines : HasLines table
 table_lines = all_rows_lines families
 
-or_null_lines : (found : Option Listed) → HasLines (row_or_null found)
+or_null_lines : (found : Option KnownCommand) → HasLines (row_or_null found)
 or_null_lines None = tt
-or_null_lines (Some listed) = row_lines listed (sub_rows (subs_of listed)) (sub_rows_lines (subs_of listed))
+or_null_lines (Some command) = row_lines command (sub_rows (subs_of command)) (sub_rows_lines (subs_of command))
 
 named_lines : (words : List (List ℕ)) → HaveLines (rows_named words)
 named_lines [] = tt
-named_lines (word ∷ words) = (or_null_lines (named all_listed word), named_lines words)
+named_lines (word ∷ words) = (or_null_lines (named all_commands word), named_lines words)
 
 pub info_lines : (words : List (List ℕ)) → HasLines (command_info words)
 info_lines [] = table_lines
@@ -91,7 +91,7 @@ info_lines (word ∷ words) = named_lines (word ∷ words)
 
 -- ---- descriptions
 
-fields_plain : (listed : Listed) → have_plain_lines (pairs_of (fields listed)) ≡ true
+fields_plain : (command : KnownCommand) → have_plain_lines (pairs_of (fields command)) ≡ true
 fields_plain Ping = refl
 fields_plain Hello = refl
 fields_plain Auth = refl
@@ -135,28 +135,28 @@ fields_plain SentinelPendingScripts = refl
 fields_plain SentinelInfoCache = refl
 fields_plain SentinelConfig = refl
 
-fields_lines : (listed : Listed) → HaveLines (pairs_of (fields listed))
-fields_lines listed = values_checked (pairs_of (fields listed)) (fields_plain listed)
+fields_lines : (command : KnownCommand) → HaveLines (pairs_of (fields command))
+fields_lines command = values_checked (pairs_of (fields command)) (fields_plain command)
 
 -- pairs after pairs
 more_lines : (pairs more : List (Frame × Frame)) → HaveLines (pairs_of pairs) → HaveLines (pairs_of more) → HaveLines (pairs_of (pairs ++ more))
 more_lines [] more h k = k
 more_lines (pair ∷ pairs) more h k = (h.0, (h.1.0, more_lines pairs more h.1.1 k))
 
-description_lines : (listed : Listed) (more : List (Frame × Frame)) → HaveLines (pairs_of more) → HasLines (description listed more)
-description_lines listed more h = more_lines (fields listed) more (fields_lines listed) h
+description_lines : (command : KnownCommand) (more : List (Frame × Frame)) → HaveLines (pairs_of more) → HasLines (description command more)
+description_lines command more h = more_lines (fields command) more (fields_lines command) h
 
-sub_description_lines : (subs : List Listed) → HaveLines (pairs_of (sub_descriptions subs))
+sub_description_lines : (subs : List KnownCommand) → HaveLines (pairs_of (sub_descriptions subs))
 sub_description_lines [] = tt
 sub_description_lines (sub ∷ subs) = (tt, (description_lines sub [] tt, sub_description_lines subs))
 
-with_lines : (listed : Listed) (subs : List Listed) → HasLines (described_with listed subs)
-with_lines listed [] = description_lines listed [] tt
-with_lines listed (sub ∷ subs) = description_lines listed _ (tt, (sub_description_lines (sub ∷ subs), tt))
+with_lines : (command : KnownCommand) (subs : List KnownCommand) → HasLines (described_with command subs)
+with_lines command [] = description_lines command [] tt
+with_lines command (sub ∷ subs) = description_lines command _ (tt, (sub_description_lines (sub ∷ subs), tt))
 
-described_lines : (listed : List Listed) → HaveLines (pairs_of (described listed))
+described_lines : (commands : List KnownCommand) → HaveLines (pairs_of (described commands))
 described_lines [] = tt
-described_lines (next ∷ listed) = (tt, (with_lines next (subs_of next), described_lines listed))
+described_lines (next ∷ commands) = (tt, (with_lines next (subs_of next), described_lines commands))
 
 pub docs_lines : (words : List (List ℕ)) → HasLines (command_docs words)
 docs_lines [] = described_lines families
@@ -174,11 +174,11 @@ syntax_lines = checked (codes "ERR syntax error") refl
 filtered_lines : (filter word : List ℕ) → HasLines (filtered_by filter word)
 filtered_lines filter word =
     one_frame (is_called (codes "module") filter) _ _ tt
-    (one_frame (is_called (codes "aclcat") filter) _ _ (names_lines (names_of (in_category word all_listed)))
-    (one_frame (is_called (codes "pattern") filter) _ _ (names_lines (names_of (matching (lower word) all_listed))) syntax_lines))
+    (one_frame (is_called (codes "aclcat") filter) _ _ (names_lines (names_of (in_category word all_commands)))
+    (one_frame (is_called (codes "pattern") filter) _ _ (names_lines (names_of (matching (lower word) all_commands))) syntax_lines))
 
 pub list_of_lines : (words : List (List ℕ)) → HasLines (command_list words)
-list_of_lines [] = names_lines (names_of all_listed)
+list_of_lines [] = names_lines (names_of all_commands)
 list_of_lines (option ∷ []) = syntax_lines
 list_of_lines (option ∷ filter ∷ []) = syntax_lines
 list_of_lines (option ∷ filter ∷ word ∷ []) = one_frame (is_called (codes "filterby") option) _ _ (filtered_lines filter word) syntax_lines

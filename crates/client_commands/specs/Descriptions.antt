@@ -1,8 +1,8 @@
 -- What COMMAND DOCS says of each command, in the words of redis-sentinel.
 use Rattle.std.specs.Prelude.{ℕ, List, [], ◌∷◌, map, codes}
 use Rattle.resp2.specs.Framing.Frame.{Frame, FrameList, simple, bulk, items, no_frames, frame, frames_of}
-use Rattle.client_commands.specs.declared.rows.Listed.{Listed}
-use Rattle.client_commands.specs.declared.rows.Listed.TheVariants.{Ping, Hello, Auth, Client, Command, Role, Publish, Info, Sentinel, Subscribe, Unsubscribe, PSubscribe, PUnsubscribe, ClientSetName, ClientGetName, ClientId, ClientList, ClientInfo, ClientKill, ClientNoEvict, ClientReply, ClientHelp, CommandCount, CommandDocs, CommandInfo, CommandList, CommandHelp, SentinelMasters, SentinelMaster, SentinelReplicas, SentinelSlaves, SentinelSentinels, SentinelMyId, SentinelCkQuorum, SentinelFailover, SentinelFlushConfig, SentinelGetMasterAddr, SentinelIsMasterDown, SentinelHelp, SentinelPendingScripts, SentinelInfoCache, SentinelConfig}
+use Rattle.client_commands.specs.declared.rows.KnownCommand.{KnownCommand}
+use Rattle.client_commands.specs.declared.rows.KnownCommand.TheVariants.{Ping, Hello, Auth, Client, Command, Role, Publish, Info, Sentinel, Subscribe, Unsubscribe, PSubscribe, PUnsubscribe, ClientSetName, ClientGetName, ClientId, ClientList, ClientInfo, ClientKill, ClientNoEvict, ClientReply, ClientHelp, CommandCount, CommandDocs, CommandInfo, CommandList, CommandHelp, SentinelMasters, SentinelMaster, SentinelReplicas, SentinelSlaves, SentinelSentinels, SentinelMyId, SentinelCkQuorum, SentinelFailover, SentinelFlushConfig, SentinelGetMasterAddr, SentinelIsMasterDown, SentinelHelp, SentinelPendingScripts, SentinelInfoCache, SentinelConfig}
 
 -- names, each before its value
 abbrev pub pairs_of : List (Frame × Frame) → FrameList
@@ -25,7 +25,7 @@ change version text = items (frames_of (bulk version ∷ bulk text ∷ []))
 abbrev pub argument : (name kind : List ℕ) → List (Frame × Frame) → Frame
 argument name kind more = items (pairs_of (field (codes "name") name ∷ field (codes "type") kind ∷ more))
 
-abbrev pub fields : Listed → List (Frame × Frame)
+abbrev pub fields : KnownCommand → List (Frame × Frame)
 fields Ping =
     field (codes "summary") (codes "Ping the server") ∷
     field (codes "since") (codes "1.0.0") ∷

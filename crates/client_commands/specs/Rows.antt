@@ -1,44 +1,60 @@
 -- The commands and subcommands that COMMAND tells of, and what is told of each in its row.
-use Rattle.std.specs.Prelude.{ℕ, suc, zero, ℤ, pos, negsuc, List, [], ◌∷◌, ◌++◌, codes}
-use Rattle.client_commands.specs.declared.rows.Listed.{Listed}
-use Rattle.client_commands.specs.declared.rows.Listed.TheVariants.{Ping, Hello, Auth, Client, Command, Role, Publish, Info, Sentinel, Subscribe, Unsubscribe, PSubscribe, PUnsubscribe, ClientSetName, ClientGetName, ClientId, ClientList, ClientInfo, ClientKill, ClientNoEvict, ClientReply, ClientHelp, CommandCount, CommandDocs, CommandInfo, CommandList, CommandHelp, SentinelMasters, SentinelMaster, SentinelReplicas, SentinelSlaves, SentinelSentinels, SentinelMyId, SentinelCkQuorum, SentinelFailover, SentinelFlushConfig, SentinelGetMasterAddr, SentinelIsMasterDown, SentinelHelp, SentinelPendingScripts, SentinelInfoCache, SentinelConfig}
+use Rattle.std.specs.Prelude.{ℕ, suc, zero, Bool, true, false, ℤ, pos, negsuc, List, [], ◌∷◌, ◌++◌, codes}
+use Rattle.client_commands.specs.declared.rows.KnownCommand.{KnownCommand}
+use Rattle.client_commands.specs.declared.rows.KnownCommand.TheVariants.{Ping, Hello, Auth, Client, Command, Role, Publish, Info, Sentinel, Subscribe, Unsubscribe, PSubscribe, PUnsubscribe, ClientSetName, ClientGetName, ClientId, ClientList, ClientInfo, ClientKill, ClientNoEvict, ClientReply, ClientHelp, CommandCount, CommandDocs, CommandInfo, CommandList, CommandHelp, SentinelMasters, SentinelMaster, SentinelReplicas, SentinelSlaves, SentinelSentinels, SentinelMyId, SentinelCkQuorum, SentinelFailover, SentinelFlushConfig, SentinelGetMasterAddr, SentinelIsMasterDown, SentinelHelp, SentinelPendingScripts, SentinelInfoCache, SentinelConfig}
 use Rattle.client_commands.specs.declared.classes.Class.{Class}
 use Rattle.client_commands.specs.declared.classes.Class.TheVariants.{Probe, Greeting, Container, Table, Status, Publishing, Figures, Ruled, Listening, Own, Clients, OwnLine, Control, Counting, Advice}
 
 -- the commands that aren't subcommands
-abbrev pub families : List Listed
+abbrev pub families : List KnownCommand
 families =
     Ping ∷ Hello ∷ Auth ∷ Client ∷ Command ∷ Role ∷ Publish ∷ Info ∷ Sentinel ∷ Subscribe ∷ Unsubscribe ∷ PSubscribe ∷ PUnsubscribe ∷ []
 
-abbrev pub of_client : List Listed
+abbrev pub of_client : List KnownCommand
 of_client =
     ClientSetName ∷ ClientGetName ∷ ClientId ∷ ClientList ∷ ClientInfo ∷ ClientKill ∷ ClientNoEvict ∷ ClientReply ∷ ClientHelp ∷ []
 
-abbrev pub of_command : List Listed
+abbrev pub of_command : List KnownCommand
 of_command =
     CommandCount ∷ CommandDocs ∷ CommandInfo ∷ CommandList ∷ CommandHelp ∷ []
 
-abbrev pub of_sentinel : List Listed
+abbrev pub of_sentinel : List KnownCommand
 of_sentinel =
     SentinelMasters ∷ SentinelMaster ∷ SentinelReplicas ∷ SentinelSlaves ∷ SentinelSentinels ∷ SentinelMyId ∷ SentinelCkQuorum ∷ SentinelFailover ∷
     SentinelFlushConfig ∷ SentinelGetMasterAddr ∷ SentinelIsMasterDown ∷ SentinelHelp ∷ SentinelPendingScripts ∷ SentinelInfoCache ∷ SentinelConfig ∷ []
 
-abbrev pub subs_of : Listed → List Listed
+abbrev pub subs_of : KnownCommand → List KnownCommand
 subs_of Client = of_client
 subs_of Command = of_command
 subs_of Sentinel = of_sentinel
-subs_of listed = []
+subs_of command = []
+
+abbrev pub is_sub : KnownCommand → Bool
+is_sub Ping = false
+is_sub Hello = false
+is_sub Auth = false
+is_sub Client = false
+is_sub Command = false
+is_sub Role = false
+is_sub Publish = false
+is_sub Info = false
+is_sub Sentinel = false
+is_sub Subscribe = false
+is_sub Unsubscribe = false
+is_sub PSubscribe = false
+is_sub PUnsubscribe = false
+is_sub command = true
 
 -- each command with its subcommands after it
-abbrev pub with_subs : List Listed → List Listed
+abbrev pub with_subs : List KnownCommand → List KnownCommand
 with_subs [] = []
 with_subs (family ∷ rest) = family ∷ (subs_of family ++ with_subs rest)
 
-abbrev pub all_listed : List Listed
-all_listed = with_subs families
+abbrev pub all_commands : List KnownCommand
+all_commands = with_subs families
 
 -- the name of a subcommand stands after that of its command
-abbrev pub name : Listed → List ℕ
+abbrev pub name : KnownCommand → List ℕ
 name Ping = codes "ping"
 name Hello = codes "hello"
 name Auth = codes "auth"
@@ -90,7 +106,7 @@ abbrev pub at_least : ℕ → ℤ
 at_least zero = pos zero
 at_least (suc n) = negsuc n
 
-abbrev pub arity : Listed → ℤ
+abbrev pub arity : KnownCommand → ℤ
 arity Ping = at_least 1
 arity Hello = at_least 1
 arity Auth = at_least 2
@@ -134,7 +150,7 @@ arity SentinelPendingScripts = exactly 2
 arity SentinelInfoCache = at_least 3
 arity SentinelConfig = at_least 3
 
-abbrev pub class_of : Listed → Class
+abbrev pub class_of : KnownCommand → Class
 class_of Ping = Probe
 class_of Hello = Greeting
 class_of Auth = Greeting

@@ -4,7 +4,7 @@ ghost use Rattle.std.specs.Prelude.{◌≡◌, map, length};
 ghost use Rattle.client_commands.specs.Pieces.{mark, text, all_in};
 ghost use Rattle.client_commands.specs.Rows.{flags, categories, tips};
 
-use crate::pieces::Piece;
+use crate::pieces::TablePiece;
 
 /// A class of commands of which the same is told.
 #[derive(Clone, Copy)]
@@ -41,103 +41,123 @@ pub(crate) enum Class {
     Advice,
 }
 
+const FAST: &[TablePiece] = &[TablePiece::Mark(b"fast")];
+
+const BEFORE_A_PASSWORD: &[TablePiece] = &[
+    TablePiece::Mark(b"noscript"),
+    TablePiece::Mark(b"loading"),
+    TablePiece::Mark(b"stale"),
+    TablePiece::Mark(b"fast"),
+    TablePiece::Mark(b"no_auth"),
+    TablePiece::Mark(b"allow_busy"),
+];
+
+const NONE: &[TablePiece] = &[];
+
+const AT_ANY_TIME: &[TablePiece] = &[TablePiece::Mark(b"loading"), TablePiece::Mark(b"stale")];
+
+const FAST_AT_ANY_TIME: &[TablePiece] = &[
+    TablePiece::Mark(b"noscript"),
+    TablePiece::Mark(b"loading"),
+    TablePiece::Mark(b"stale"),
+    TablePiece::Mark(b"fast"),
+];
+
+const PUBLISHES: &[TablePiece] = &[
+    TablePiece::Mark(b"pubsub"),
+    TablePiece::Mark(b"loading"),
+    TablePiece::Mark(b"stale"),
+    TablePiece::Mark(b"fast"),
+];
+
+const ADMIN: &[TablePiece] = &[TablePiece::Mark(b"admin")];
+
+const LISTENS: &[TablePiece] = &[
+    TablePiece::Mark(b"pubsub"),
+    TablePiece::Mark(b"noscript"),
+    TablePiece::Mark(b"loading"),
+    TablePiece::Mark(b"stale"),
+];
+
+const IN_NO_SCRIPT: &[TablePiece] = &[
+    TablePiece::Mark(b"noscript"),
+    TablePiece::Mark(b"loading"),
+    TablePiece::Mark(b"stale"),
+];
+
+const ADMIN_AT_ANY_TIME: &[TablePiece] = &[
+    TablePiece::Mark(b"admin"),
+    TablePiece::Mark(b"noscript"),
+    TablePiece::Mark(b"loading"),
+    TablePiece::Mark(b"stale"),
+];
+
 impl Class {
     /// Their flags.
-    pub(crate) fn flags(self) -> &'static [Piece]
+    pub(crate) fn flags(self) -> &'static [TablePiece]
         ensures parts { all_in result.now ≡ map mark (flags self) }
         ensures size { length result.now ≡ length (flags self) }
     {
         match self {
-            Class::Probe => &[Piece::Mark(b"fast")],
-            Class::Greeting => &[
-                Piece::Mark(b"noscript"),
-                Piece::Mark(b"loading"),
-                Piece::Mark(b"stale"),
-                Piece::Mark(b"fast"),
-                Piece::Mark(b"no_auth"),
-                Piece::Mark(b"allow_busy"),
-            ],
-            Class::Container => &[],
-            Class::Table | Class::Figures | Class::Counting | Class::Advice => &[
-                Piece::Mark(b"loading"),
-                Piece::Mark(b"stale"),
-            ],
-            Class::Status => &[
-                Piece::Mark(b"noscript"),
-                Piece::Mark(b"loading"),
-                Piece::Mark(b"stale"),
-                Piece::Mark(b"fast"),
-            ],
-            Class::Publishing => &[
-                Piece::Mark(b"pubsub"),
-                Piece::Mark(b"loading"),
-                Piece::Mark(b"stale"),
-                Piece::Mark(b"fast"),
-            ],
-            Class::Ruled => &[Piece::Mark(b"admin")],
-            Class::Listening => &[
-                Piece::Mark(b"pubsub"),
-                Piece::Mark(b"noscript"),
-                Piece::Mark(b"loading"),
-                Piece::Mark(b"stale"),
-            ],
-            Class::Own | Class::OwnLine => &[
-                Piece::Mark(b"noscript"),
-                Piece::Mark(b"loading"),
-                Piece::Mark(b"stale"),
-            ],
-            Class::Clients | Class::Control => &[
-                Piece::Mark(b"admin"),
-                Piece::Mark(b"noscript"),
-                Piece::Mark(b"loading"),
-                Piece::Mark(b"stale"),
-            ],
+            Class::Probe => FAST,
+            Class::Greeting => BEFORE_A_PASSWORD,
+            Class::Container => NONE,
+            Class::Table | Class::Figures | Class::Counting | Class::Advice => AT_ANY_TIME,
+            Class::Status => FAST_AT_ANY_TIME,
+            Class::Publishing => PUBLISHES,
+            Class::Ruled => ADMIN,
+            Class::Listening => LISTENS,
+            Class::Own | Class::OwnLine => IN_NO_SCRIPT,
+            Class::Clients | Class::Control => ADMIN_AT_ANY_TIME,
         }
     }
 
     /// The categories of access that they are in, each after an `@`.
-    pub(crate) fn categories(self) -> &'static [Piece]
+    pub(crate) fn categories(self) -> &'static [TablePiece]
         ensures parts { all_in result.now ≡ map mark (categories self) }
         ensures size { length result.now ≡ length (categories self) }
     {
         match self {
-            Class::Probe | Class::Greeting => &[Piece::Mark(b"@fast"), Piece::Mark(b"@connection")],
-            Class::Container | Class::Advice => &[Piece::Mark(b"@slow")],
+            Class::Probe | Class::Greeting => &[
+                TablePiece::Mark(b"@fast"),
+                TablePiece::Mark(b"@connection"),
+            ],
+            Class::Container | Class::Advice => &[TablePiece::Mark(b"@slow")],
             Class::Table | Class::Own | Class::OwnLine | Class::Counting => &[
-                Piece::Mark(b"@slow"),
-                Piece::Mark(b"@connection"),
+                TablePiece::Mark(b"@slow"),
+                TablePiece::Mark(b"@connection"),
             ],
             Class::Status => &[
-                Piece::Mark(b"@admin"),
-                Piece::Mark(b"@fast"),
-                Piece::Mark(b"@dangerous"),
+                TablePiece::Mark(b"@admin"),
+                TablePiece::Mark(b"@fast"),
+                TablePiece::Mark(b"@dangerous"),
             ],
-            Class::Publishing => &[Piece::Mark(b"@pubsub"), Piece::Mark(b"@fast")],
-            Class::Figures => &[Piece::Mark(b"@slow"), Piece::Mark(b"@dangerous")],
+            Class::Publishing => &[TablePiece::Mark(b"@pubsub"), TablePiece::Mark(b"@fast")],
+            Class::Figures => &[TablePiece::Mark(b"@slow"), TablePiece::Mark(b"@dangerous")],
             Class::Ruled => &[
-                Piece::Mark(b"@admin"),
-                Piece::Mark(b"@slow"),
-                Piece::Mark(b"@dangerous"),
+                TablePiece::Mark(b"@admin"),
+                TablePiece::Mark(b"@slow"),
+                TablePiece::Mark(b"@dangerous"),
             ],
-            Class::Listening => &[Piece::Mark(b"@pubsub"), Piece::Mark(b"@slow")],
+            Class::Listening => &[TablePiece::Mark(b"@pubsub"), TablePiece::Mark(b"@slow")],
             Class::Clients | Class::Control => &[
-                Piece::Mark(b"@admin"),
-                Piece::Mark(b"@slow"),
-                Piece::Mark(b"@dangerous"),
-                Piece::Mark(b"@connection"),
+                TablePiece::Mark(b"@admin"),
+                TablePiece::Mark(b"@slow"),
+                TablePiece::Mark(b"@dangerous"),
+                TablePiece::Mark(b"@connection"),
             ],
         }
     }
 
     /// What a client of a cluster is to know.
-    pub(crate) fn tips(self) -> &'static [Piece]
+    pub(crate) fn tips(self) -> &'static [TablePiece]
         ensures parts { all_in result.now ≡ map text (tips self) }
         ensures size { length result.now ≡ length (tips self) }
     {
         match self {
             Class::Probe => &[
-                Piece::Text(b"request_policy:all_shards"),
-                Piece::Text(b"response_policy:all_succeeded"),
+                TablePiece::Text(b"request_policy:all_shards"),
+                TablePiece::Text(b"response_policy:all_succeeded"),
             ],
             Class::Greeting
             | Class::Container
@@ -149,13 +169,13 @@ impl Class {
             | Class::Control
             | Class::Counting
             | Class::Advice => &[],
-            Class::Table => &[Piece::Text(b"nondeterministic_output_order")],
+            Class::Table => &[TablePiece::Text(b"nondeterministic_output_order")],
             Class::Figures => &[
-                Piece::Text(b"nondeterministic_output"),
-                Piece::Text(b"request_policy:all_shards"),
-                Piece::Text(b"response_policy:special"),
+                TablePiece::Text(b"nondeterministic_output"),
+                TablePiece::Text(b"request_policy:all_shards"),
+                TablePiece::Text(b"response_policy:special"),
             ],
-            Class::Clients | Class::OwnLine => &[Piece::Text(b"nondeterministic_output")],
+            Class::Clients | Class::OwnLine => &[TablePiece::Text(b"nondeterministic_output")],
         }
     }
 }

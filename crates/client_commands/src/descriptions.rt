@@ -1,715 +1,732 @@
 //! What COMMAND DOCS says of each command, in the words of redis-sentinel.
 
-ghost use Rattle.std.specs.Prelude.{◌≡◌, ◌<◌, ◌*◌, length};
+ghost use Rattle.std.specs.Prelude.{◌≡◌, ◌<◌, ◌*◌, true, length};
+ghost use Rattle.client_commands.specs.Rows.{is_sub};
 ghost use Rattle.client_commands.specs.Pieces.{all_in, all_parts_of};
 ghost use Rattle.client_commands.specs.Descriptions.{fields, pairs_of};
 
-use crate::pieces::Piece;
-use crate::rows::Listed;
+use crate::pieces::TablePiece;
+use crate::rows::KnownCommand;
 
-const PING: &[Piece] = &[
-    Piece::Field(b"summary", b"Ping the server"),
-    Piece::Field(b"since", b"1.0.0"),
-    Piece::Field(b"group", b"connection"),
-    Piece::Field(b"complexity", b"O(1)"),
-    Piece::Many(b"arguments", 1),
-    Piece::Argument(6, b"message", b"string"),
-    Piece::Many(b"flags", 1),
-    Piece::Mark(b"optional"),
+const PING: &[TablePiece] = &[
+    TablePiece::Field(b"summary", b"Ping the server"),
+    TablePiece::Field(b"since", b"1.0.0"),
+    TablePiece::Field(b"group", b"connection"),
+    TablePiece::Field(b"complexity", b"O(1)"),
+    TablePiece::Many(b"arguments", 1),
+    TablePiece::Argument(6, b"message", b"string"),
+    TablePiece::Many(b"flags", 1),
+    TablePiece::Mark(b"optional"),
 ];
 
-const HELLO: &[Piece] = &[
-    Piece::Field(b"summary", b"Handshake with Redis"),
-    Piece::Field(b"since", b"6.0.0"),
-    Piece::Field(b"group", b"connection"),
-    Piece::Field(b"complexity", b"O(1)"),
-    Piece::Many(b"history", 1),
-    Piece::Change(
+const HELLO: &[TablePiece] = &[
+    TablePiece::Field(b"summary", b"Handshake with Redis"),
+    TablePiece::Field(b"since", b"6.0.0"),
+    TablePiece::Field(b"group", b"connection"),
+    TablePiece::Field(b"complexity", b"O(1)"),
+    TablePiece::Many(b"history", 1),
+    TablePiece::Change(
         b"6.2.0",
-        b"`protover` made optional; when called without arguments the command reports the current connection's context.",
+        b"`protover` made optional; when called without arguments the command \
+        reports the current connection's context.",
     ),
-    Piece::Many(b"arguments", 1),
-    Piece::Argument(8, b"arguments", b"block"),
-    Piece::Many(b"flags", 1),
-    Piece::Mark(b"optional"),
-    Piece::Many(b"arguments", 3),
-    Piece::Argument(4, b"protover", b"integer"),
-    Piece::Argument(10, b"username_password", b"block"),
-    Piece::Field(b"token", b"AUTH"),
-    Piece::Many(b"flags", 1),
-    Piece::Mark(b"optional"),
-    Piece::Many(b"arguments", 2),
-    Piece::Argument(4, b"username", b"string"),
-    Piece::Argument(4, b"password", b"string"),
-    Piece::Argument(8, b"clientname", b"string"),
-    Piece::Field(b"token", b"SETNAME"),
-    Piece::Many(b"flags", 1),
-    Piece::Mark(b"optional"),
+    TablePiece::Many(b"arguments", 1),
+    TablePiece::Argument(8, b"arguments", b"block"),
+    TablePiece::Many(b"flags", 1),
+    TablePiece::Mark(b"optional"),
+    TablePiece::Many(b"arguments", 3),
+    TablePiece::Argument(4, b"protover", b"integer"),
+    TablePiece::Argument(10, b"username_password", b"block"),
+    TablePiece::Field(b"token", b"AUTH"),
+    TablePiece::Many(b"flags", 1),
+    TablePiece::Mark(b"optional"),
+    TablePiece::Many(b"arguments", 2),
+    TablePiece::Argument(4, b"username", b"string"),
+    TablePiece::Argument(4, b"password", b"string"),
+    TablePiece::Argument(8, b"clientname", b"string"),
+    TablePiece::Field(b"token", b"SETNAME"),
+    TablePiece::Many(b"flags", 1),
+    TablePiece::Mark(b"optional"),
 ];
 
-const AUTH: &[Piece] = &[
-    Piece::Field(b"summary", b"Authenticate to the server"),
-    Piece::Field(b"since", b"1.0.0"),
-    Piece::Field(b"group", b"connection"),
-    Piece::Field(
+const AUTH: &[TablePiece] = &[
+    TablePiece::Field(b"summary", b"Authenticate to the server"),
+    TablePiece::Field(b"since", b"1.0.0"),
+    TablePiece::Field(b"group", b"connection"),
+    TablePiece::Field(
         b"complexity",
         b"O(N) where N is the number of passwords defined for the user",
     ),
-    Piece::Many(b"history", 1),
-    Piece::Change(b"6.0.0", b"Added ACL style (username and password)."),
-    Piece::Many(b"arguments", 2),
-    Piece::Argument(8, b"username", b"string"),
-    Piece::Field(b"since", b"6.0.0"),
-    Piece::Many(b"flags", 1),
-    Piece::Mark(b"optional"),
-    Piece::Argument(4, b"password", b"string"),
+    TablePiece::Many(b"history", 1),
+    TablePiece::Change(b"6.0.0", b"Added ACL style (username and password)."),
+    TablePiece::Many(b"arguments", 2),
+    TablePiece::Argument(8, b"username", b"string"),
+    TablePiece::Field(b"since", b"6.0.0"),
+    TablePiece::Many(b"flags", 1),
+    TablePiece::Mark(b"optional"),
+    TablePiece::Argument(4, b"password", b"string"),
 ];
 
-const CLIENT: &[Piece] = &[
-    Piece::Field(b"summary", b"A container for client connection commands"),
-    Piece::Field(b"since", b"2.4.0"),
-    Piece::Field(b"group", b"connection"),
-    Piece::Field(b"complexity", b"Depends on subcommand."),
+const CLIENT: &[TablePiece] = &[
+    TablePiece::Field(b"summary", b"A container for client connection commands"),
+    TablePiece::Field(b"since", b"2.4.0"),
+    TablePiece::Field(b"group", b"connection"),
+    TablePiece::Field(b"complexity", b"Depends on subcommand."),
 ];
 
-const COMMAND: &[Piece] = &[
-    Piece::Field(b"summary", b"Get array of Redis command details"),
-    Piece::Field(b"since", b"2.8.13"),
-    Piece::Field(b"group", b"server"),
-    Piece::Field(
+const COMMAND: &[TablePiece] = &[
+    TablePiece::Field(b"summary", b"Get array of Redis command details"),
+    TablePiece::Field(b"since", b"2.8.13"),
+    TablePiece::Field(b"group", b"server"),
+    TablePiece::Field(
         b"complexity",
         b"O(N) where N is the total number of Redis commands",
     ),
 ];
 
-const ROLE: &[Piece] = &[
-    Piece::Field(
+const ROLE: &[TablePiece] = &[
+    TablePiece::Field(
         b"summary",
         b"Return the role of the instance in the context of replication",
     ),
-    Piece::Field(b"since", b"2.8.12"),
-    Piece::Field(b"group", b"server"),
-    Piece::Field(b"complexity", b"O(1)"),
+    TablePiece::Field(b"since", b"2.8.12"),
+    TablePiece::Field(b"group", b"server"),
+    TablePiece::Field(b"complexity", b"O(1)"),
 ];
 
-const PUBLISH: &[Piece] = &[
-    Piece::Field(b"summary", b"Post a message to a channel"),
-    Piece::Field(b"since", b"2.0.0"),
-    Piece::Field(b"group", b"pubsub"),
-    Piece::Field(
+const PUBLISH: &[TablePiece] = &[
+    TablePiece::Field(b"summary", b"Post a message to a channel"),
+    TablePiece::Field(b"since", b"2.0.0"),
+    TablePiece::Field(b"group", b"pubsub"),
+    TablePiece::Field(
         b"complexity",
-        b"O(N+M) where N is the number of clients subscribed to the receiving channel and M is the total number of subscribed patterns (by any client).",
+        b"O(N+M) where N is the number of clients subscribed to the receiving \
+        channel and M is the total number of subscribed patterns (by any client).",
     ),
-    Piece::Many(b"arguments", 2),
-    Piece::Argument(4, b"channel", b"string"),
-    Piece::Argument(4, b"message", b"string"),
+    TablePiece::Many(b"arguments", 2),
+    TablePiece::Argument(4, b"channel", b"string"),
+    TablePiece::Argument(4, b"message", b"string"),
 ];
 
-const INFO: &[Piece] = &[
-    Piece::Field(
+const INFO: &[TablePiece] = &[
+    TablePiece::Field(
         b"summary",
         b"Get information and statistics about the server",
     ),
-    Piece::Field(b"since", b"1.0.0"),
-    Piece::Field(b"group", b"server"),
-    Piece::Field(b"complexity", b"O(1)"),
-    Piece::Many(b"history", 1),
-    Piece::Change(
+    TablePiece::Field(b"since", b"1.0.0"),
+    TablePiece::Field(b"group", b"server"),
+    TablePiece::Field(b"complexity", b"O(1)"),
+    TablePiece::Many(b"history", 1),
+    TablePiece::Change(
         b"7.0.0",
         b"Added support for taking multiple section arguments.",
     ),
-    Piece::Many(b"arguments", 1),
-    Piece::Argument(6, b"section", b"string"),
-    Piece::Many(b"flags", 2),
-    Piece::Mark(b"optional"),
-    Piece::Mark(b"multiple"),
+    TablePiece::Many(b"arguments", 1),
+    TablePiece::Argument(6, b"section", b"string"),
+    TablePiece::Many(b"flags", 2),
+    TablePiece::Mark(b"optional"),
+    TablePiece::Mark(b"multiple"),
 ];
 
-const SENTINEL: &[Piece] = &[
-    Piece::Field(b"summary", b"A container for Sentinel commands"),
-    Piece::Field(b"since", b"2.8.4"),
-    Piece::Field(b"group", b"sentinel"),
-    Piece::Field(b"complexity", b"Depends on subcommand."),
+const SENTINEL: &[TablePiece] = &[
+    TablePiece::Field(b"summary", b"A container for Sentinel commands"),
+    TablePiece::Field(b"since", b"2.8.4"),
+    TablePiece::Field(b"group", b"sentinel"),
+    TablePiece::Field(b"complexity", b"Depends on subcommand."),
 ];
 
-const SUBSCRIBE: &[Piece] = &[
-    Piece::Field(
+const SUBSCRIBE: &[TablePiece] = &[
+    TablePiece::Field(
         b"summary",
         b"Listen for messages published to the given channels",
     ),
-    Piece::Field(b"since", b"2.0.0"),
-    Piece::Field(b"group", b"pubsub"),
-    Piece::Field(
+    TablePiece::Field(b"since", b"2.0.0"),
+    TablePiece::Field(b"group", b"pubsub"),
+    TablePiece::Field(
         b"complexity",
         b"O(N) where N is the number of channels to subscribe to.",
     ),
-    Piece::Many(b"arguments", 1),
-    Piece::Argument(6, b"channel", b"string"),
-    Piece::Many(b"flags", 1),
-    Piece::Mark(b"multiple"),
+    TablePiece::Many(b"arguments", 1),
+    TablePiece::Argument(6, b"channel", b"string"),
+    TablePiece::Many(b"flags", 1),
+    TablePiece::Mark(b"multiple"),
 ];
 
-const UNSUBSCRIBE: &[Piece] = &[
-    Piece::Field(
+const UNSUBSCRIBE: &[TablePiece] = &[
+    TablePiece::Field(
         b"summary",
         b"Stop listening for messages posted to the given channels",
     ),
-    Piece::Field(b"since", b"2.0.0"),
-    Piece::Field(b"group", b"pubsub"),
-    Piece::Field(
+    TablePiece::Field(b"since", b"2.0.0"),
+    TablePiece::Field(b"group", b"pubsub"),
+    TablePiece::Field(
         b"complexity",
         b"O(N) where N is the number of clients already subscribed to a channel.",
     ),
-    Piece::Many(b"arguments", 1),
-    Piece::Argument(6, b"channel", b"string"),
-    Piece::Many(b"flags", 2),
-    Piece::Mark(b"optional"),
-    Piece::Mark(b"multiple"),
+    TablePiece::Many(b"arguments", 1),
+    TablePiece::Argument(6, b"channel", b"string"),
+    TablePiece::Many(b"flags", 2),
+    TablePiece::Mark(b"optional"),
+    TablePiece::Mark(b"multiple"),
 ];
 
-const PSUBSCRIBE: &[Piece] = &[
-    Piece::Field(
+const PSUBSCRIBE: &[TablePiece] = &[
+    TablePiece::Field(
         b"summary",
         b"Listen for messages published to channels matching the given patterns",
     ),
-    Piece::Field(b"since", b"2.0.0"),
-    Piece::Field(b"group", b"pubsub"),
-    Piece::Field(
+    TablePiece::Field(b"since", b"2.0.0"),
+    TablePiece::Field(b"group", b"pubsub"),
+    TablePiece::Field(
         b"complexity",
         b"O(N) where N is the number of patterns the client is already subscribed to.",
     ),
-    Piece::Many(b"arguments", 1),
-    Piece::Argument(8, b"pattern", b"block"),
-    Piece::Many(b"flags", 1),
-    Piece::Mark(b"multiple"),
-    Piece::Many(b"arguments", 1),
-    Piece::Argument(4, b"pattern", b"pattern"),
+    TablePiece::Many(b"arguments", 1),
+    TablePiece::Argument(8, b"pattern", b"block"),
+    TablePiece::Many(b"flags", 1),
+    TablePiece::Mark(b"multiple"),
+    TablePiece::Many(b"arguments", 1),
+    TablePiece::Argument(4, b"pattern", b"pattern"),
 ];
 
-const PUNSUBSCRIBE: &[Piece] = &[
-    Piece::Field(
+const PUNSUBSCRIBE: &[TablePiece] = &[
+    TablePiece::Field(
         b"summary",
         b"Stop listening for messages posted to channels matching the given patterns",
     ),
-    Piece::Field(b"since", b"2.0.0"),
-    Piece::Field(b"group", b"pubsub"),
-    Piece::Field(
+    TablePiece::Field(b"since", b"2.0.0"),
+    TablePiece::Field(b"group", b"pubsub"),
+    TablePiece::Field(
         b"complexity",
-        b"O(N+M) where N is the number of patterns the client is already subscribed and M is the number of total patterns subscribed in the system (by any client).",
+        b"O(N+M) where N is the number of patterns the client is already \
+        subscribed and M is the number of total patterns subscribed in the system (by any client).",
     ),
-    Piece::Many(b"arguments", 1),
-    Piece::Argument(6, b"pattern", b"pattern"),
-    Piece::Many(b"flags", 2),
-    Piece::Mark(b"optional"),
-    Piece::Mark(b"multiple"),
+    TablePiece::Many(b"arguments", 1),
+    TablePiece::Argument(6, b"pattern", b"pattern"),
+    TablePiece::Many(b"flags", 2),
+    TablePiece::Mark(b"optional"),
+    TablePiece::Mark(b"multiple"),
 ];
 
-const CLIENT_SETNAME: &[Piece] = &[
-    Piece::Field(b"summary", b"Set the current connection name"),
-    Piece::Field(b"since", b"2.6.9"),
-    Piece::Field(b"group", b"connection"),
-    Piece::Field(b"complexity", b"O(1)"),
-    Piece::Many(b"arguments", 1),
-    Piece::Argument(4, b"connection-name", b"string"),
+const CLIENT_SETNAME: &[TablePiece] = &[
+    TablePiece::Field(b"summary", b"Set the current connection name"),
+    TablePiece::Field(b"since", b"2.6.9"),
+    TablePiece::Field(b"group", b"connection"),
+    TablePiece::Field(b"complexity", b"O(1)"),
+    TablePiece::Many(b"arguments", 1),
+    TablePiece::Argument(4, b"connection-name", b"string"),
 ];
 
-const CLIENT_GETNAME: &[Piece] = &[
-    Piece::Field(b"summary", b"Get the current connection name"),
-    Piece::Field(b"since", b"2.6.9"),
-    Piece::Field(b"group", b"connection"),
-    Piece::Field(b"complexity", b"O(1)"),
+const CLIENT_GETNAME: &[TablePiece] = &[
+    TablePiece::Field(b"summary", b"Get the current connection name"),
+    TablePiece::Field(b"since", b"2.6.9"),
+    TablePiece::Field(b"group", b"connection"),
+    TablePiece::Field(b"complexity", b"O(1)"),
 ];
 
-const CLIENT_ID: &[Piece] = &[
-    Piece::Field(
+const CLIENT_ID: &[TablePiece] = &[
+    TablePiece::Field(
         b"summary",
         b"Returns the client ID for the current connection",
     ),
-    Piece::Field(b"since", b"5.0.0"),
-    Piece::Field(b"group", b"connection"),
-    Piece::Field(b"complexity", b"O(1)"),
+    TablePiece::Field(b"since", b"5.0.0"),
+    TablePiece::Field(b"group", b"connection"),
+    TablePiece::Field(b"complexity", b"O(1)"),
 ];
 
-const CLIENT_LIST: &[Piece] = &[
-    Piece::Field(b"summary", b"Get the list of client connections"),
-    Piece::Field(b"since", b"2.4.0"),
-    Piece::Field(b"group", b"connection"),
-    Piece::Field(
+const CLIENT_LIST: &[TablePiece] = &[
+    TablePiece::Field(b"summary", b"Get the list of client connections"),
+    TablePiece::Field(b"since", b"2.4.0"),
+    TablePiece::Field(b"group", b"connection"),
+    TablePiece::Field(
         b"complexity",
         b"O(N) where N is the number of client connections",
     ),
-    Piece::Many(b"history", 6),
-    Piece::Change(b"2.8.12", b"Added unique client `id` field."),
-    Piece::Change(b"5.0.0", b"Added optional `TYPE` filter."),
-    Piece::Change(b"6.0.0", b"Added `user` field."),
-    Piece::Change(
+    TablePiece::Many(b"history", 6),
+    TablePiece::Change(b"2.8.12", b"Added unique client `id` field."),
+    TablePiece::Change(b"5.0.0", b"Added optional `TYPE` filter."),
+    TablePiece::Change(b"6.0.0", b"Added `user` field."),
+    TablePiece::Change(
         b"6.2.0",
-        b"Added `argv-mem`, `tot-mem`, `laddr` and `redir` fields and the optional `ID` filter.",
+        b"Added `argv-mem`, `tot-mem`, `laddr` and `redir` fields and the \
+        optional `ID` filter.",
     ),
-    Piece::Change(
+    TablePiece::Change(
         b"7.0.0",
         b"Added `resp`, `multi-mem`, `rbs` and `rbp` fields.",
     ),
-    Piece::Change(b"7.0.3", b"Added `ssub` field."),
-    Piece::Many(b"arguments", 2),
-    Piece::Argument(12, b"normal_master_replica_pubsub", b"oneof"),
-    Piece::Field(b"token", b"TYPE"),
-    Piece::Field(b"since", b"5.0.0"),
-    Piece::Many(b"flags", 1),
-    Piece::Mark(b"optional"),
-    Piece::Many(b"arguments", 4),
-    Piece::Argument(6, b"normal", b"pure-token"),
-    Piece::Field(b"token", b"NORMAL"),
-    Piece::Argument(6, b"master", b"pure-token"),
-    Piece::Field(b"token", b"MASTER"),
-    Piece::Argument(6, b"replica", b"pure-token"),
-    Piece::Field(b"token", b"REPLICA"),
-    Piece::Argument(6, b"pubsub", b"pure-token"),
-    Piece::Field(b"token", b"PUBSUB"),
-    Piece::Argument(12, b"id", b"block"),
-    Piece::Field(b"token", b"ID"),
-    Piece::Field(b"since", b"6.2.0"),
-    Piece::Many(b"flags", 1),
-    Piece::Mark(b"optional"),
-    Piece::Many(b"arguments", 1),
-    Piece::Argument(6, b"client-id", b"integer"),
-    Piece::Many(b"flags", 1),
-    Piece::Mark(b"multiple"),
+    TablePiece::Change(b"7.0.3", b"Added `ssub` field."),
+    TablePiece::Many(b"arguments", 2),
+    TablePiece::Argument(12, b"normal_master_replica_pubsub", b"oneof"),
+    TablePiece::Field(b"token", b"TYPE"),
+    TablePiece::Field(b"since", b"5.0.0"),
+    TablePiece::Many(b"flags", 1),
+    TablePiece::Mark(b"optional"),
+    TablePiece::Many(b"arguments", 4),
+    TablePiece::Argument(6, b"normal", b"pure-token"),
+    TablePiece::Field(b"token", b"NORMAL"),
+    TablePiece::Argument(6, b"master", b"pure-token"),
+    TablePiece::Field(b"token", b"MASTER"),
+    TablePiece::Argument(6, b"replica", b"pure-token"),
+    TablePiece::Field(b"token", b"REPLICA"),
+    TablePiece::Argument(6, b"pubsub", b"pure-token"),
+    TablePiece::Field(b"token", b"PUBSUB"),
+    TablePiece::Argument(12, b"id", b"block"),
+    TablePiece::Field(b"token", b"ID"),
+    TablePiece::Field(b"since", b"6.2.0"),
+    TablePiece::Many(b"flags", 1),
+    TablePiece::Mark(b"optional"),
+    TablePiece::Many(b"arguments", 1),
+    TablePiece::Argument(6, b"client-id", b"integer"),
+    TablePiece::Many(b"flags", 1),
+    TablePiece::Mark(b"multiple"),
 ];
 
-const CLIENT_INFO: &[Piece] = &[
-    Piece::Field(
+const CLIENT_INFO: &[TablePiece] = &[
+    TablePiece::Field(
         b"summary",
         b"Returns information about the current client connection.",
     ),
-    Piece::Field(b"since", b"6.2.0"),
-    Piece::Field(b"group", b"connection"),
-    Piece::Field(b"complexity", b"O(1)"),
+    TablePiece::Field(b"since", b"6.2.0"),
+    TablePiece::Field(b"group", b"connection"),
+    TablePiece::Field(b"complexity", b"O(1)"),
 ];
 
-const CLIENT_KILL: &[Piece] = &[
-    Piece::Field(b"summary", b"Kill the connection of a client"),
-    Piece::Field(b"since", b"2.4.0"),
-    Piece::Field(b"group", b"connection"),
-    Piece::Field(
+const CLIENT_KILL: &[TablePiece] = &[
+    TablePiece::Field(b"summary", b"Kill the connection of a client"),
+    TablePiece::Field(b"since", b"2.4.0"),
+    TablePiece::Field(b"group", b"connection"),
+    TablePiece::Field(
         b"complexity",
         b"O(N) where N is the number of client connections",
     ),
-    Piece::Many(b"history", 5),
-    Piece::Change(b"2.8.12", b"Added new filter format."),
-    Piece::Change(b"2.8.12", b"`ID` option."),
-    Piece::Change(b"3.2.0", b"Added `master` type in for `TYPE` option."),
-    Piece::Change(
+    TablePiece::Many(b"history", 5),
+    TablePiece::Change(b"2.8.12", b"Added new filter format."),
+    TablePiece::Change(b"2.8.12", b"`ID` option."),
+    TablePiece::Change(b"3.2.0", b"Added `master` type in for `TYPE` option."),
+    TablePiece::Change(
         b"5.0.0",
-        b"Replaced `slave` `TYPE` with `replica`. `slave` still supported for backward compatibility.",
+        b"Replaced `slave` `TYPE` with `replica`. `slave` still supported for \
+        backward compatibility.",
     ),
-    Piece::Change(b"6.2.0", b"`LADDR` option."),
-    Piece::Many(b"arguments", 1),
-    Piece::Argument(6, b"filter", b"oneof"),
-    Piece::Many(b"arguments", 2),
-    Piece::Argument(6, b"ip:port", b"string"),
-    Piece::Field(b"deprecated_since", b"2.8.12"),
-    Piece::Argument(8, b"new-format", b"oneof"),
-    Piece::Many(b"flags", 1),
-    Piece::Mark(b"multiple"),
-    Piece::Many(b"arguments", 6),
-    Piece::Argument(10, b"client-id", b"integer"),
-    Piece::Field(b"token", b"ID"),
-    Piece::Field(b"since", b"2.8.12"),
-    Piece::Many(b"flags", 1),
-    Piece::Mark(b"optional"),
-    Piece::Argument(12, b"normal_master_slave_pubsub", b"oneof"),
-    Piece::Field(b"token", b"TYPE"),
-    Piece::Field(b"since", b"2.8.12"),
-    Piece::Many(b"flags", 1),
-    Piece::Mark(b"optional"),
-    Piece::Many(b"arguments", 5),
-    Piece::Argument(6, b"normal", b"pure-token"),
-    Piece::Field(b"token", b"NORMAL"),
-    Piece::Argument(8, b"master", b"pure-token"),
-    Piece::Field(b"token", b"MASTER"),
-    Piece::Field(b"since", b"3.2.0"),
-    Piece::Argument(6, b"slave", b"pure-token"),
-    Piece::Field(b"token", b"SLAVE"),
-    Piece::Argument(8, b"replica", b"pure-token"),
-    Piece::Field(b"token", b"REPLICA"),
-    Piece::Field(b"since", b"5.0.0"),
-    Piece::Argument(6, b"pubsub", b"pure-token"),
-    Piece::Field(b"token", b"PUBSUB"),
-    Piece::Argument(8, b"username", b"string"),
-    Piece::Field(b"token", b"USER"),
-    Piece::Many(b"flags", 1),
-    Piece::Mark(b"optional"),
-    Piece::Argument(8, b"ip:port", b"string"),
-    Piece::Field(b"token", b"ADDR"),
-    Piece::Many(b"flags", 1),
-    Piece::Mark(b"optional"),
-    Piece::Argument(10, b"ip:port", b"string"),
-    Piece::Field(b"token", b"LADDR"),
-    Piece::Field(b"since", b"6.2.0"),
-    Piece::Many(b"flags", 1),
-    Piece::Mark(b"optional"),
-    Piece::Argument(8, b"yes/no", b"string"),
-    Piece::Field(b"token", b"SKIPME"),
-    Piece::Many(b"flags", 1),
-    Piece::Mark(b"optional"),
+    TablePiece::Change(b"6.2.0", b"`LADDR` option."),
+    TablePiece::Many(b"arguments", 1),
+    TablePiece::Argument(6, b"filter", b"oneof"),
+    TablePiece::Many(b"arguments", 2),
+    TablePiece::Argument(6, b"ip:port", b"string"),
+    TablePiece::Field(b"deprecated_since", b"2.8.12"),
+    TablePiece::Argument(8, b"new-format", b"oneof"),
+    TablePiece::Many(b"flags", 1),
+    TablePiece::Mark(b"multiple"),
+    TablePiece::Many(b"arguments", 6),
+    TablePiece::Argument(10, b"client-id", b"integer"),
+    TablePiece::Field(b"token", b"ID"),
+    TablePiece::Field(b"since", b"2.8.12"),
+    TablePiece::Many(b"flags", 1),
+    TablePiece::Mark(b"optional"),
+    TablePiece::Argument(12, b"normal_master_slave_pubsub", b"oneof"),
+    TablePiece::Field(b"token", b"TYPE"),
+    TablePiece::Field(b"since", b"2.8.12"),
+    TablePiece::Many(b"flags", 1),
+    TablePiece::Mark(b"optional"),
+    TablePiece::Many(b"arguments", 5),
+    TablePiece::Argument(6, b"normal", b"pure-token"),
+    TablePiece::Field(b"token", b"NORMAL"),
+    TablePiece::Argument(8, b"master", b"pure-token"),
+    TablePiece::Field(b"token", b"MASTER"),
+    TablePiece::Field(b"since", b"3.2.0"),
+    TablePiece::Argument(6, b"slave", b"pure-token"),
+    TablePiece::Field(b"token", b"SLAVE"),
+    TablePiece::Argument(8, b"replica", b"pure-token"),
+    TablePiece::Field(b"token", b"REPLICA"),
+    TablePiece::Field(b"since", b"5.0.0"),
+    TablePiece::Argument(6, b"pubsub", b"pure-token"),
+    TablePiece::Field(b"token", b"PUBSUB"),
+    TablePiece::Argument(8, b"username", b"string"),
+    TablePiece::Field(b"token", b"USER"),
+    TablePiece::Many(b"flags", 1),
+    TablePiece::Mark(b"optional"),
+    TablePiece::Argument(8, b"ip:port", b"string"),
+    TablePiece::Field(b"token", b"ADDR"),
+    TablePiece::Many(b"flags", 1),
+    TablePiece::Mark(b"optional"),
+    TablePiece::Argument(10, b"ip:port", b"string"),
+    TablePiece::Field(b"token", b"LADDR"),
+    TablePiece::Field(b"since", b"6.2.0"),
+    TablePiece::Many(b"flags", 1),
+    TablePiece::Mark(b"optional"),
+    TablePiece::Argument(8, b"yes/no", b"string"),
+    TablePiece::Field(b"token", b"SKIPME"),
+    TablePiece::Many(b"flags", 1),
+    TablePiece::Mark(b"optional"),
 ];
 
-const CLIENT_NO_EVICT: &[Piece] = &[
-    Piece::Field(
+const CLIENT_NO_EVICT: &[TablePiece] = &[
+    TablePiece::Field(
         b"summary",
         b"Set client eviction mode for the current connection",
     ),
-    Piece::Field(b"since", b"7.0.0"),
-    Piece::Field(b"group", b"connection"),
-    Piece::Field(b"complexity", b"O(1)"),
-    Piece::Many(b"arguments", 1),
-    Piece::Argument(6, b"enabled", b"oneof"),
-    Piece::Many(b"arguments", 2),
-    Piece::Argument(6, b"on", b"pure-token"),
-    Piece::Field(b"token", b"ON"),
-    Piece::Argument(6, b"off", b"pure-token"),
-    Piece::Field(b"token", b"OFF"),
+    TablePiece::Field(b"since", b"7.0.0"),
+    TablePiece::Field(b"group", b"connection"),
+    TablePiece::Field(b"complexity", b"O(1)"),
+    TablePiece::Many(b"arguments", 1),
+    TablePiece::Argument(6, b"enabled", b"oneof"),
+    TablePiece::Many(b"arguments", 2),
+    TablePiece::Argument(6, b"on", b"pure-token"),
+    TablePiece::Field(b"token", b"ON"),
+    TablePiece::Argument(6, b"off", b"pure-token"),
+    TablePiece::Field(b"token", b"OFF"),
 ];
 
-const CLIENT_REPLY: &[Piece] = &[
-    Piece::Field(
+const CLIENT_REPLY: &[TablePiece] = &[
+    TablePiece::Field(
         b"summary",
         b"Instruct the server whether to reply to commands",
     ),
-    Piece::Field(b"since", b"3.2.0"),
-    Piece::Field(b"group", b"connection"),
-    Piece::Field(b"complexity", b"O(1)"),
-    Piece::Many(b"arguments", 1),
-    Piece::Argument(6, b"on_off_skip", b"oneof"),
-    Piece::Many(b"arguments", 3),
-    Piece::Argument(6, b"on", b"pure-token"),
-    Piece::Field(b"token", b"ON"),
-    Piece::Argument(6, b"off", b"pure-token"),
-    Piece::Field(b"token", b"OFF"),
-    Piece::Argument(6, b"skip", b"pure-token"),
-    Piece::Field(b"token", b"SKIP"),
+    TablePiece::Field(b"since", b"3.2.0"),
+    TablePiece::Field(b"group", b"connection"),
+    TablePiece::Field(b"complexity", b"O(1)"),
+    TablePiece::Many(b"arguments", 1),
+    TablePiece::Argument(6, b"on_off_skip", b"oneof"),
+    TablePiece::Many(b"arguments", 3),
+    TablePiece::Argument(6, b"on", b"pure-token"),
+    TablePiece::Field(b"token", b"ON"),
+    TablePiece::Argument(6, b"off", b"pure-token"),
+    TablePiece::Field(b"token", b"OFF"),
+    TablePiece::Argument(6, b"skip", b"pure-token"),
+    TablePiece::Field(b"token", b"SKIP"),
 ];
 
-const CLIENT_HELP: &[Piece] = &[
-    Piece::Field(
+const CLIENT_HELP: &[TablePiece] = &[
+    TablePiece::Field(
         b"summary",
         b"Show helpful text about the different subcommands",
     ),
-    Piece::Field(b"since", b"5.0.0"),
-    Piece::Field(b"group", b"connection"),
-    Piece::Field(b"complexity", b"O(1)"),
+    TablePiece::Field(b"since", b"5.0.0"),
+    TablePiece::Field(b"group", b"connection"),
+    TablePiece::Field(b"complexity", b"O(1)"),
 ];
 
-const COMMAND_COUNT: &[Piece] = &[
-    Piece::Field(b"summary", b"Get total number of Redis commands"),
-    Piece::Field(b"since", b"2.8.13"),
-    Piece::Field(b"group", b"server"),
-    Piece::Field(b"complexity", b"O(1)"),
+const COMMAND_COUNT: &[TablePiece] = &[
+    TablePiece::Field(b"summary", b"Get total number of Redis commands"),
+    TablePiece::Field(b"since", b"2.8.13"),
+    TablePiece::Field(b"group", b"server"),
+    TablePiece::Field(b"complexity", b"O(1)"),
 ];
 
-const COMMAND_DOCS: &[Piece] = &[
-    Piece::Field(
+const COMMAND_DOCS: &[TablePiece] = &[
+    TablePiece::Field(
         b"summary",
         b"Get array of specific Redis command documentation",
     ),
-    Piece::Field(b"since", b"7.0.0"),
-    Piece::Field(b"group", b"server"),
-    Piece::Field(
+    TablePiece::Field(b"since", b"7.0.0"),
+    TablePiece::Field(b"group", b"server"),
+    TablePiece::Field(
         b"complexity",
         b"O(N) where N is the number of commands to look up",
     ),
-    Piece::Many(b"arguments", 1),
-    Piece::Argument(6, b"command-name", b"string"),
-    Piece::Many(b"flags", 2),
-    Piece::Mark(b"optional"),
-    Piece::Mark(b"multiple"),
+    TablePiece::Many(b"arguments", 1),
+    TablePiece::Argument(6, b"command-name", b"string"),
+    TablePiece::Many(b"flags", 2),
+    TablePiece::Mark(b"optional"),
+    TablePiece::Mark(b"multiple"),
 ];
 
-const COMMAND_INFO: &[Piece] = &[
-    Piece::Field(
+const COMMAND_INFO: &[TablePiece] = &[
+    TablePiece::Field(
         b"summary",
-        b"Get array of specific Redis command details, or all when no argument is given.",
+        b"Get array of specific Redis command details, or all when no argument \
+        is given.",
     ),
-    Piece::Field(b"since", b"2.8.13"),
-    Piece::Field(b"group", b"server"),
-    Piece::Field(
+    TablePiece::Field(b"since", b"2.8.13"),
+    TablePiece::Field(b"group", b"server"),
+    TablePiece::Field(
         b"complexity",
         b"O(N) where N is the number of commands to look up",
     ),
-    Piece::Many(b"history", 1),
-    Piece::Change(
+    TablePiece::Many(b"history", 1),
+    TablePiece::Change(
         b"7.0.0",
         b"Allowed to be called with no argument to get info on all commands.",
     ),
-    Piece::Many(b"arguments", 1),
-    Piece::Argument(6, b"command-name", b"string"),
-    Piece::Many(b"flags", 2),
-    Piece::Mark(b"optional"),
-    Piece::Mark(b"multiple"),
+    TablePiece::Many(b"arguments", 1),
+    TablePiece::Argument(6, b"command-name", b"string"),
+    TablePiece::Many(b"flags", 2),
+    TablePiece::Mark(b"optional"),
+    TablePiece::Mark(b"multiple"),
 ];
 
-const COMMAND_LIST: &[Piece] = &[
-    Piece::Field(b"summary", b"Get an array of Redis command names"),
-    Piece::Field(b"since", b"7.0.0"),
-    Piece::Field(b"group", b"server"),
-    Piece::Field(
+const COMMAND_LIST: &[TablePiece] = &[
+    TablePiece::Field(b"summary", b"Get an array of Redis command names"),
+    TablePiece::Field(b"since", b"7.0.0"),
+    TablePiece::Field(b"group", b"server"),
+    TablePiece::Field(
         b"complexity",
         b"O(N) where N is the total number of Redis commands",
     ),
-    Piece::Many(b"arguments", 1),
-    Piece::Argument(10, b"filterby", b"oneof"),
-    Piece::Field(b"token", b"FILTERBY"),
-    Piece::Many(b"flags", 1),
-    Piece::Mark(b"optional"),
-    Piece::Many(b"arguments", 3),
-    Piece::Argument(6, b"module-name", b"string"),
-    Piece::Field(b"token", b"MODULE"),
-    Piece::Argument(6, b"category", b"string"),
-    Piece::Field(b"token", b"ACLCAT"),
-    Piece::Argument(6, b"pattern", b"pattern"),
-    Piece::Field(b"token", b"PATTERN"),
+    TablePiece::Many(b"arguments", 1),
+    TablePiece::Argument(10, b"filterby", b"oneof"),
+    TablePiece::Field(b"token", b"FILTERBY"),
+    TablePiece::Many(b"flags", 1),
+    TablePiece::Mark(b"optional"),
+    TablePiece::Many(b"arguments", 3),
+    TablePiece::Argument(6, b"module-name", b"string"),
+    TablePiece::Field(b"token", b"MODULE"),
+    TablePiece::Argument(6, b"category", b"string"),
+    TablePiece::Field(b"token", b"ACLCAT"),
+    TablePiece::Argument(6, b"pattern", b"pattern"),
+    TablePiece::Field(b"token", b"PATTERN"),
 ];
 
-const COMMAND_HELP: &[Piece] = &[
-    Piece::Field(
+const COMMAND_HELP: &[TablePiece] = &[
+    TablePiece::Field(
         b"summary",
         b"Show helpful text about the different subcommands",
     ),
-    Piece::Field(b"since", b"5.0.0"),
-    Piece::Field(b"group", b"server"),
-    Piece::Field(b"complexity", b"O(1)"),
+    TablePiece::Field(b"since", b"5.0.0"),
+    TablePiece::Field(b"group", b"server"),
+    TablePiece::Field(b"complexity", b"O(1)"),
 ];
 
-const SENTINEL_MASTERS: &[Piece] = &[
-    Piece::Field(b"summary", b"List the monitored masters"),
-    Piece::Field(b"since", b"2.8.4"),
-    Piece::Field(b"group", b"sentinel"),
-    Piece::Field(b"complexity", b"O(N) where N is the number of masters"),
+const SENTINEL_MASTERS: &[TablePiece] = &[
+    TablePiece::Field(b"summary", b"List the monitored masters"),
+    TablePiece::Field(b"since", b"2.8.4"),
+    TablePiece::Field(b"group", b"sentinel"),
+    TablePiece::Field(b"complexity", b"O(N) where N is the number of masters"),
 ];
 
-const SENTINEL_MASTER: &[Piece] = &[
-    Piece::Field(b"summary", b"Shows the state of a master"),
-    Piece::Field(b"since", b"2.8.4"),
-    Piece::Field(b"group", b"sentinel"),
-    Piece::Field(b"complexity", b"O(1)"),
-    Piece::Many(b"arguments", 1),
-    Piece::Argument(4, b"master-name", b"string"),
+const SENTINEL_MASTER: &[TablePiece] = &[
+    TablePiece::Field(b"summary", b"Shows the state of a master"),
+    TablePiece::Field(b"since", b"2.8.4"),
+    TablePiece::Field(b"group", b"sentinel"),
+    TablePiece::Field(b"complexity", b"O(1)"),
+    TablePiece::Many(b"arguments", 1),
+    TablePiece::Argument(4, b"master-name", b"string"),
 ];
 
-const SENTINEL_REPLICAS: &[Piece] = &[
-    Piece::Field(b"summary", b"List the monitored replicas"),
-    Piece::Field(b"since", b"5.0.0"),
-    Piece::Field(b"group", b"sentinel"),
-    Piece::Field(b"complexity", b"O(N) where N is the number of replicas"),
-    Piece::Many(b"arguments", 1),
-    Piece::Argument(4, b"master-name", b"string"),
+const SENTINEL_REPLICAS: &[TablePiece] = &[
+    TablePiece::Field(b"summary", b"List the monitored replicas"),
+    TablePiece::Field(b"since", b"5.0.0"),
+    TablePiece::Field(b"group", b"sentinel"),
+    TablePiece::Field(b"complexity", b"O(N) where N is the number of replicas"),
+    TablePiece::Many(b"arguments", 1),
+    TablePiece::Argument(4, b"master-name", b"string"),
 ];
 
-const SENTINEL_SLAVES: &[Piece] = &[
-    Piece::Field(b"summary", b"List the monitored slaves"),
-    Piece::Field(b"since", b"2.8.0"),
-    Piece::Field(b"group", b"sentinel"),
-    Piece::Field(b"complexity", b"O(N) where N is the number of slaves"),
-    Piece::Many(b"doc_flags", 1),
-    Piece::Mark(b"deprecated"),
-    Piece::Field(b"deprecated_since", b"5.0.0"),
-    Piece::Field(b"replaced_by", b"`SENTINEL REPLICAS`"),
-    Piece::Many(b"arguments", 1),
-    Piece::Argument(4, b"master-name", b"string"),
+const SENTINEL_SLAVES: &[TablePiece] = &[
+    TablePiece::Field(b"summary", b"List the monitored slaves"),
+    TablePiece::Field(b"since", b"2.8.0"),
+    TablePiece::Field(b"group", b"sentinel"),
+    TablePiece::Field(b"complexity", b"O(N) where N is the number of slaves"),
+    TablePiece::Many(b"doc_flags", 1),
+    TablePiece::Mark(b"deprecated"),
+    TablePiece::Field(b"deprecated_since", b"5.0.0"),
+    TablePiece::Field(b"replaced_by", b"`SENTINEL REPLICAS`"),
+    TablePiece::Many(b"arguments", 1),
+    TablePiece::Argument(4, b"master-name", b"string"),
 ];
 
-const SENTINEL_SENTINELS: &[Piece] = &[
-    Piece::Field(b"summary", b"List the Sentinel instances"),
-    Piece::Field(b"since", b"2.8.4"),
-    Piece::Field(b"group", b"sentinel"),
-    Piece::Field(b"complexity", b"O(N) where N is the number of Sentinels"),
-    Piece::Many(b"arguments", 1),
-    Piece::Argument(4, b"master-name", b"string"),
+const SENTINEL_SENTINELS: &[TablePiece] = &[
+    TablePiece::Field(b"summary", b"List the Sentinel instances"),
+    TablePiece::Field(b"since", b"2.8.4"),
+    TablePiece::Field(b"group", b"sentinel"),
+    TablePiece::Field(b"complexity", b"O(N) where N is the number of Sentinels"),
+    TablePiece::Many(b"arguments", 1),
+    TablePiece::Argument(4, b"master-name", b"string"),
 ];
 
-const SENTINEL_MYID: &[Piece] = &[
-    Piece::Field(b"summary", b"Get the Sentinel instance ID"),
-    Piece::Field(b"since", b"6.2.0"),
-    Piece::Field(b"group", b"sentinel"),
-    Piece::Field(b"complexity", b"O(1)"),
+const SENTINEL_MYID: &[TablePiece] = &[
+    TablePiece::Field(b"summary", b"Get the Sentinel instance ID"),
+    TablePiece::Field(b"since", b"6.2.0"),
+    TablePiece::Field(b"group", b"sentinel"),
+    TablePiece::Field(b"complexity", b"O(1)"),
 ];
 
-const SENTINEL_CKQUORUM: &[Piece] = &[
-    Piece::Field(b"summary", b"Check for a Sentinel quorum"),
-    Piece::Field(b"since", b"2.8.4"),
-    Piece::Field(b"group", b"sentinel"),
-    Piece::Many(b"arguments", 1),
-    Piece::Argument(4, b"master-name", b"string"),
+const SENTINEL_CKQUORUM: &[TablePiece] = &[
+    TablePiece::Field(b"summary", b"Check for a Sentinel quorum"),
+    TablePiece::Field(b"since", b"2.8.4"),
+    TablePiece::Field(b"group", b"sentinel"),
+    TablePiece::Many(b"arguments", 1),
+    TablePiece::Argument(4, b"master-name", b"string"),
 ];
 
-const SENTINEL_FAILOVER: &[Piece] = &[
-    Piece::Field(b"summary", b"Force a failover"),
-    Piece::Field(b"since", b"2.8.4"),
-    Piece::Field(b"group", b"sentinel"),
-    Piece::Many(b"arguments", 1),
-    Piece::Argument(4, b"master-name", b"string"),
+const SENTINEL_FAILOVER: &[TablePiece] = &[
+    TablePiece::Field(b"summary", b"Force a failover"),
+    TablePiece::Field(b"since", b"2.8.4"),
+    TablePiece::Field(b"group", b"sentinel"),
+    TablePiece::Many(b"arguments", 1),
+    TablePiece::Argument(4, b"master-name", b"string"),
 ];
 
-const SENTINEL_FLUSHCONFIG: &[Piece] = &[
-    Piece::Field(b"summary", b"Rewrite configuration file"),
-    Piece::Field(b"since", b"2.8.4"),
-    Piece::Field(b"group", b"sentinel"),
-    Piece::Field(b"complexity", b"O(1)"),
+const SENTINEL_FLUSHCONFIG: &[TablePiece] = &[
+    TablePiece::Field(b"summary", b"Rewrite configuration file"),
+    TablePiece::Field(b"since", b"2.8.4"),
+    TablePiece::Field(b"group", b"sentinel"),
+    TablePiece::Field(b"complexity", b"O(1)"),
 ];
 
-const SENTINEL_GET_MASTER_ADDR_BY_NAME: &[Piece] = &[
-    Piece::Field(b"summary", b"Get port and address of a master"),
-    Piece::Field(b"since", b"2.8.4"),
-    Piece::Field(b"group", b"sentinel"),
-    Piece::Field(b"complexity", b"O(1)"),
-    Piece::Many(b"arguments", 1),
-    Piece::Argument(4, b"master-name", b"string"),
+const SENTINEL_GET_MASTER_ADDR_BY_NAME: &[TablePiece] = &[
+    TablePiece::Field(b"summary", b"Get port and address of a master"),
+    TablePiece::Field(b"since", b"2.8.4"),
+    TablePiece::Field(b"group", b"sentinel"),
+    TablePiece::Field(b"complexity", b"O(1)"),
+    TablePiece::Many(b"arguments", 1),
+    TablePiece::Argument(4, b"master-name", b"string"),
 ];
 
-const SENTINEL_IS_MASTER_DOWN_BY_ADDR: &[Piece] = &[
-    Piece::Field(b"summary", b"Check if a master is down"),
-    Piece::Field(b"since", b"2.8.4"),
-    Piece::Field(b"group", b"sentinel"),
-    Piece::Field(b"complexity", b"O(1)"),
-    Piece::Many(b"arguments", 4),
-    Piece::Argument(4, b"ip", b"string"),
-    Piece::Argument(4, b"port", b"integer"),
-    Piece::Argument(4, b"current-epoch", b"integer"),
-    Piece::Argument(4, b"runid", b"string"),
+const SENTINEL_IS_MASTER_DOWN_BY_ADDR: &[TablePiece] = &[
+    TablePiece::Field(b"summary", b"Check if a master is down"),
+    TablePiece::Field(b"since", b"2.8.4"),
+    TablePiece::Field(b"group", b"sentinel"),
+    TablePiece::Field(b"complexity", b"O(1)"),
+    TablePiece::Many(b"arguments", 4),
+    TablePiece::Argument(4, b"ip", b"string"),
+    TablePiece::Argument(4, b"port", b"integer"),
+    TablePiece::Argument(4, b"current-epoch", b"integer"),
+    TablePiece::Argument(4, b"runid", b"string"),
 ];
 
-const SENTINEL_HELP: &[Piece] = &[
-    Piece::Field(
+const SENTINEL_HELP: &[TablePiece] = &[
+    TablePiece::Field(
         b"summary",
         b"Show helpful text about the different subcommands",
     ),
-    Piece::Field(b"since", b"6.2.0"),
-    Piece::Field(b"group", b"sentinel"),
-    Piece::Field(b"complexity", b"O(1)"),
+    TablePiece::Field(b"since", b"6.2.0"),
+    TablePiece::Field(b"group", b"sentinel"),
+    TablePiece::Field(b"complexity", b"O(1)"),
 ];
 
-const SENTINEL_PENDING_SCRIPTS: &[Piece] = &[
-    Piece::Field(b"summary", b"Get information about pending scripts"),
-    Piece::Field(b"since", b"2.8.4"),
-    Piece::Field(b"group", b"sentinel"),
+const SENTINEL_PENDING_SCRIPTS: &[TablePiece] = &[
+    TablePiece::Field(b"summary", b"Get information about pending scripts"),
+    TablePiece::Field(b"since", b"2.8.4"),
+    TablePiece::Field(b"group", b"sentinel"),
 ];
 
-const SENTINEL_INFO_CACHE: &[Piece] = &[
-    Piece::Field(
+const SENTINEL_INFO_CACHE: &[TablePiece] = &[
+    TablePiece::Field(
         b"summary",
         b"Get cached INFO from the instances in the deployment",
     ),
-    Piece::Field(b"since", b"3.2.0"),
-    Piece::Field(b"group", b"sentinel"),
-    Piece::Field(b"complexity", b"O(N) where N is the number of instances"),
-    Piece::Many(b"arguments", 1),
-    Piece::Argument(6, b"nodename", b"string"),
-    Piece::Many(b"flags", 1),
-    Piece::Mark(b"multiple"),
+    TablePiece::Field(b"since", b"3.2.0"),
+    TablePiece::Field(b"group", b"sentinel"),
+    TablePiece::Field(b"complexity", b"O(N) where N is the number of instances"),
+    TablePiece::Many(b"arguments", 1),
+    TablePiece::Argument(6, b"nodename", b"string"),
+    TablePiece::Many(b"flags", 1),
+    TablePiece::Mark(b"multiple"),
 ];
 
-const SENTINEL_CONFIG: &[Piece] = &[
-    Piece::Field(b"summary", b"Configure Sentinel"),
-    Piece::Field(b"since", b"6.2.0"),
-    Piece::Field(b"group", b"sentinel"),
-    Piece::Field(b"complexity", b"O(1)"),
-    Piece::Many(b"arguments", 1),
-    Piece::Argument(6, b"set_or_get", b"oneof"),
-    Piece::Many(b"arguments", 2),
-    Piece::Argument(10, b"set_param_value", b"block"),
-    Piece::Field(b"token", b"SET"),
-    Piece::Many(b"flags", 1),
-    Piece::Mark(b"multiple"),
-    Piece::Many(b"arguments", 2),
-    Piece::Argument(4, b"parameter", b"string"),
-    Piece::Argument(4, b"value", b"string"),
-    Piece::Argument(8, b"parameter", b"string"),
-    Piece::Field(b"token", b"GET"),
-    Piece::Many(b"flags", 1),
-    Piece::Mark(b"multiple"),
+const SENTINEL_CONFIG: &[TablePiece] = &[
+    TablePiece::Field(b"summary", b"Configure Sentinel"),
+    TablePiece::Field(b"since", b"6.2.0"),
+    TablePiece::Field(b"group", b"sentinel"),
+    TablePiece::Field(b"complexity", b"O(1)"),
+    TablePiece::Many(b"arguments", 1),
+    TablePiece::Argument(6, b"set_or_get", b"oneof"),
+    TablePiece::Many(b"arguments", 2),
+    TablePiece::Argument(10, b"set_param_value", b"block"),
+    TablePiece::Field(b"token", b"SET"),
+    TablePiece::Many(b"flags", 1),
+    TablePiece::Mark(b"multiple"),
+    TablePiece::Many(b"arguments", 2),
+    TablePiece::Argument(4, b"parameter", b"string"),
+    TablePiece::Argument(4, b"value", b"string"),
+    TablePiece::Argument(8, b"parameter", b"string"),
+    TablePiece::Field(b"token", b"GET"),
+    TablePiece::Many(b"flags", 1),
+    TablePiece::Mark(b"multiple"),
 ];
 
 /// What is said of it, without the number of its names and values.
-pub(crate) fn pieces_about(listed: Listed) -> &'static [Piece]
-    ensures { all_in result.now ≡ all_parts_of (pairs_of (fields listed)) }
+pub(crate) fn pieces_about(command: KnownCommand) -> &'static [TablePiece]
+    ensures { all_in result.now ≡ all_parts_of (pairs_of (fields command)) }
 {
-    match listed {
-        Listed::Ping => PING,
-        Listed::Hello => HELLO,
-        Listed::Auth => AUTH,
-        Listed::Client => CLIENT,
-        Listed::Command => COMMAND,
-        Listed::Role => ROLE,
-        Listed::Publish => PUBLISH,
-        Listed::Info => INFO,
-        Listed::Sentinel => SENTINEL,
-        Listed::Subscribe => SUBSCRIBE,
-        Listed::Unsubscribe => UNSUBSCRIBE,
-        Listed::PSubscribe => PSUBSCRIBE,
-        Listed::PUnsubscribe => PUNSUBSCRIBE,
-        Listed::ClientSetName => CLIENT_SETNAME,
-        Listed::ClientGetName => CLIENT_GETNAME,
-        Listed::ClientId => CLIENT_ID,
-        Listed::ClientList => CLIENT_LIST,
-        Listed::ClientInfo => CLIENT_INFO,
-        Listed::ClientKill => CLIENT_KILL,
-        Listed::ClientNoEvict => CLIENT_NO_EVICT,
-        Listed::ClientReply => CLIENT_REPLY,
-        Listed::ClientHelp => CLIENT_HELP,
-        Listed::CommandCount => COMMAND_COUNT,
-        Listed::CommandDocs => COMMAND_DOCS,
-        Listed::CommandInfo => COMMAND_INFO,
-        Listed::CommandList => COMMAND_LIST,
-        Listed::CommandHelp => COMMAND_HELP,
-        Listed::SentinelMasters => SENTINEL_MASTERS,
-        Listed::SentinelMaster => SENTINEL_MASTER,
-        Listed::SentinelReplicas => SENTINEL_REPLICAS,
-        Listed::SentinelSlaves => SENTINEL_SLAVES,
-        Listed::SentinelSentinels => SENTINEL_SENTINELS,
-        Listed::SentinelMyId => SENTINEL_MYID,
-        Listed::SentinelCkQuorum => SENTINEL_CKQUORUM,
-        Listed::SentinelFailover => SENTINEL_FAILOVER,
-        Listed::SentinelFlushConfig => SENTINEL_FLUSHCONFIG,
-        Listed::SentinelGetMasterAddr => SENTINEL_GET_MASTER_ADDR_BY_NAME,
-        Listed::SentinelIsMasterDown => SENTINEL_IS_MASTER_DOWN_BY_ADDR,
-        Listed::SentinelHelp => SENTINEL_HELP,
-        Listed::SentinelPendingScripts => SENTINEL_PENDING_SCRIPTS,
-        Listed::SentinelInfoCache => SENTINEL_INFO_CACHE,
-        Listed::SentinelConfig => SENTINEL_CONFIG,
+    match command {
+        KnownCommand::Ping => PING,
+        KnownCommand::Hello => HELLO,
+        KnownCommand::Auth => AUTH,
+        KnownCommand::Client => CLIENT,
+        KnownCommand::Command => COMMAND,
+        KnownCommand::Role => ROLE,
+        KnownCommand::Publish => PUBLISH,
+        KnownCommand::Info => INFO,
+        KnownCommand::Sentinel => SENTINEL,
+        KnownCommand::Subscribe => SUBSCRIBE,
+        KnownCommand::Unsubscribe => UNSUBSCRIBE,
+        KnownCommand::PSubscribe => PSUBSCRIBE,
+        KnownCommand::PUnsubscribe => PUNSUBSCRIBE,
+        _ => pieces_about_sub(command),
+    }
+}
+
+/// What is said of a subcommand; nothing of another command.
+fn pieces_about_sub(sub: KnownCommand) -> &'static [TablePiece]
+    ensures { is_sub sub ≡ true → all_in result.now ≡ all_parts_of (pairs_of (fields sub)) }
+{
+    match sub {
+        KnownCommand::ClientSetName => CLIENT_SETNAME,
+        KnownCommand::ClientGetName => CLIENT_GETNAME,
+        KnownCommand::ClientId => CLIENT_ID,
+        KnownCommand::ClientList => CLIENT_LIST,
+        KnownCommand::ClientInfo => CLIENT_INFO,
+        KnownCommand::ClientKill => CLIENT_KILL,
+        KnownCommand::ClientNoEvict => CLIENT_NO_EVICT,
+        KnownCommand::ClientReply => CLIENT_REPLY,
+        KnownCommand::ClientHelp => CLIENT_HELP,
+        KnownCommand::CommandCount => COMMAND_COUNT,
+        KnownCommand::CommandDocs => COMMAND_DOCS,
+        KnownCommand::CommandInfo => COMMAND_INFO,
+        KnownCommand::CommandList => COMMAND_LIST,
+        KnownCommand::CommandHelp => COMMAND_HELP,
+        KnownCommand::SentinelMasters => SENTINEL_MASTERS,
+        KnownCommand::SentinelMaster => SENTINEL_MASTER,
+        KnownCommand::SentinelReplicas => SENTINEL_REPLICAS,
+        KnownCommand::SentinelSlaves => SENTINEL_SLAVES,
+        KnownCommand::SentinelSentinels => SENTINEL_SENTINELS,
+        KnownCommand::SentinelMyId => SENTINEL_MYID,
+        KnownCommand::SentinelCkQuorum => SENTINEL_CKQUORUM,
+        KnownCommand::SentinelFailover => SENTINEL_FAILOVER,
+        KnownCommand::SentinelFlushConfig => SENTINEL_FLUSHCONFIG,
+        KnownCommand::SentinelGetMasterAddr => SENTINEL_GET_MASTER_ADDR_BY_NAME,
+        KnownCommand::SentinelIsMasterDown => SENTINEL_IS_MASTER_DOWN_BY_ADDR,
+        KnownCommand::SentinelHelp => SENTINEL_HELP,
+        KnownCommand::SentinelPendingScripts => SENTINEL_PENDING_SCRIPTS,
+        KnownCommand::SentinelInfoCache => SENTINEL_INFO_CACHE,
+        KnownCommand::SentinelConfig => SENTINEL_CONFIG,
+        _ => &[],
     }
 }
 
 /// How many names and values there are.
-pub(crate) fn size_of(listed: Listed) -> usize
-    ensures size { result ≡ length (fields listed) * 2 }
+pub(crate) fn size_of(command: KnownCommand) -> usize
+    ensures size { result ≡ length (fields command) * 2 }
     ensures small { result < 100 }
 {
-    match listed {
-        Listed::SentinelSlaves => 16,
-        Listed::SentinelPendingScripts => 6,
-        Listed::Hello
-        | Listed::Auth
-        | Listed::Info
-        | Listed::ClientList
-        | Listed::ClientKill
-        | Listed::CommandInfo => 12,
-        Listed::Client
-        | Listed::Command
-        | Listed::Role
-        | Listed::Sentinel
-        | Listed::ClientGetName
-        | Listed::ClientId
-        | Listed::ClientInfo
-        | Listed::ClientHelp
-        | Listed::CommandCount
-        | Listed::CommandHelp
-        | Listed::SentinelMasters
-        | Listed::SentinelMyId
-        | Listed::SentinelCkQuorum
-        | Listed::SentinelFailover
-        | Listed::SentinelFlushConfig
-        | Listed::SentinelHelp => 8,
+    match command {
+        KnownCommand::SentinelSlaves => 16,
+        KnownCommand::SentinelPendingScripts => 6,
+        KnownCommand::Hello
+        | KnownCommand::Auth
+        | KnownCommand::Info
+        | KnownCommand::ClientList
+        | KnownCommand::ClientKill
+        | KnownCommand::CommandInfo => 12,
+        KnownCommand::Client
+        | KnownCommand::Command
+        | KnownCommand::Role
+        | KnownCommand::Sentinel
+        | KnownCommand::ClientGetName
+        | KnownCommand::ClientId
+        | KnownCommand::ClientInfo
+        | KnownCommand::ClientHelp
+        | KnownCommand::CommandCount
+        | KnownCommand::CommandHelp
+        | KnownCommand::SentinelMasters
+        | KnownCommand::SentinelMyId
+        | KnownCommand::SentinelCkQuorum
+        | KnownCommand::SentinelFailover
+        | KnownCommand::SentinelFlushConfig
+        | KnownCommand::SentinelHelp => 8,
         _ => 10,
     }
 }

@@ -1,13 +1,13 @@
 //! The commands and subcommands that COMMAND tells of: those of this port that redis-sentinel has too.
 
-ghost use Rattle.std.specs.Prelude.{◌≡◌};
-ghost use Rattle.client_commands.specs.Rows.{name, arity, class_of, subs_of, families, all_listed};
+ghost use Rattle.std.specs.Prelude.{◌≡◌, true};
+ghost use Rattle.client_commands.specs.Rows.{name, arity, class_of, is_sub, subs_of, families, all_commands};
 
 use crate::classes::Class;
 
 /// A command or a subcommand of one.
 #[derive(Clone, Copy)]
-pub(crate) enum Listed {
+pub(crate) enum KnownCommand {
     Ping,
     Hello,
     Auth,
@@ -52,167 +52,177 @@ pub(crate) enum Listed {
     SentinelConfig,
 }
 
-const FAMILIES: &[Listed] = &[
-    Listed::Ping,
-    Listed::Hello,
-    Listed::Auth,
-    Listed::Client,
-    Listed::Command,
-    Listed::Role,
-    Listed::Publish,
-    Listed::Info,
-    Listed::Sentinel,
-    Listed::Subscribe,
-    Listed::Unsubscribe,
-    Listed::PSubscribe,
-    Listed::PUnsubscribe,
+const FAMILIES: &[KnownCommand] = &[
+    KnownCommand::Ping,
+    KnownCommand::Hello,
+    KnownCommand::Auth,
+    KnownCommand::Client,
+    KnownCommand::Command,
+    KnownCommand::Role,
+    KnownCommand::Publish,
+    KnownCommand::Info,
+    KnownCommand::Sentinel,
+    KnownCommand::Subscribe,
+    KnownCommand::Unsubscribe,
+    KnownCommand::PSubscribe,
+    KnownCommand::PUnsubscribe,
 ];
 
-const LISTED: &[Listed] = &[
-    Listed::Ping,
-    Listed::Hello,
-    Listed::Auth,
-    Listed::Client,
-    Listed::ClientSetName,
-    Listed::ClientGetName,
-    Listed::ClientId,
-    Listed::ClientList,
-    Listed::ClientInfo,
-    Listed::ClientKill,
-    Listed::ClientNoEvict,
-    Listed::ClientReply,
-    Listed::ClientHelp,
-    Listed::Command,
-    Listed::CommandCount,
-    Listed::CommandDocs,
-    Listed::CommandInfo,
-    Listed::CommandList,
-    Listed::CommandHelp,
-    Listed::Role,
-    Listed::Publish,
-    Listed::Info,
-    Listed::Sentinel,
-    Listed::SentinelMasters,
-    Listed::SentinelMaster,
-    Listed::SentinelReplicas,
-    Listed::SentinelSlaves,
-    Listed::SentinelSentinels,
-    Listed::SentinelMyId,
-    Listed::SentinelCkQuorum,
-    Listed::SentinelFailover,
-    Listed::SentinelFlushConfig,
-    Listed::SentinelGetMasterAddr,
-    Listed::SentinelIsMasterDown,
-    Listed::SentinelHelp,
-    Listed::SentinelPendingScripts,
-    Listed::SentinelInfoCache,
-    Listed::SentinelConfig,
-    Listed::Subscribe,
-    Listed::Unsubscribe,
-    Listed::PSubscribe,
-    Listed::PUnsubscribe,
+const COMMANDS: &[KnownCommand] = &[
+    KnownCommand::Ping,
+    KnownCommand::Hello,
+    KnownCommand::Auth,
+    KnownCommand::Client,
+    KnownCommand::ClientSetName,
+    KnownCommand::ClientGetName,
+    KnownCommand::ClientId,
+    KnownCommand::ClientList,
+    KnownCommand::ClientInfo,
+    KnownCommand::ClientKill,
+    KnownCommand::ClientNoEvict,
+    KnownCommand::ClientReply,
+    KnownCommand::ClientHelp,
+    KnownCommand::Command,
+    KnownCommand::CommandCount,
+    KnownCommand::CommandDocs,
+    KnownCommand::CommandInfo,
+    KnownCommand::CommandList,
+    KnownCommand::CommandHelp,
+    KnownCommand::Role,
+    KnownCommand::Publish,
+    KnownCommand::Info,
+    KnownCommand::Sentinel,
+    KnownCommand::SentinelMasters,
+    KnownCommand::SentinelMaster,
+    KnownCommand::SentinelReplicas,
+    KnownCommand::SentinelSlaves,
+    KnownCommand::SentinelSentinels,
+    KnownCommand::SentinelMyId,
+    KnownCommand::SentinelCkQuorum,
+    KnownCommand::SentinelFailover,
+    KnownCommand::SentinelFlushConfig,
+    KnownCommand::SentinelGetMasterAddr,
+    KnownCommand::SentinelIsMasterDown,
+    KnownCommand::SentinelHelp,
+    KnownCommand::SentinelPendingScripts,
+    KnownCommand::SentinelInfoCache,
+    KnownCommand::SentinelConfig,
+    KnownCommand::Subscribe,
+    KnownCommand::Unsubscribe,
+    KnownCommand::PSubscribe,
+    KnownCommand::PUnsubscribe,
 ];
 
-const OF_CLIENT: &[Listed] = &[
-    Listed::ClientSetName,
-    Listed::ClientGetName,
-    Listed::ClientId,
-    Listed::ClientList,
-    Listed::ClientInfo,
-    Listed::ClientKill,
-    Listed::ClientNoEvict,
-    Listed::ClientReply,
-    Listed::ClientHelp,
+const OF_CLIENT: &[KnownCommand] = &[
+    KnownCommand::ClientSetName,
+    KnownCommand::ClientGetName,
+    KnownCommand::ClientId,
+    KnownCommand::ClientList,
+    KnownCommand::ClientInfo,
+    KnownCommand::ClientKill,
+    KnownCommand::ClientNoEvict,
+    KnownCommand::ClientReply,
+    KnownCommand::ClientHelp,
 ];
 
-const OF_COMMAND: &[Listed] = &[
-    Listed::CommandCount,
-    Listed::CommandDocs,
-    Listed::CommandInfo,
-    Listed::CommandList,
-    Listed::CommandHelp,
+const OF_COMMAND: &[KnownCommand] = &[
+    KnownCommand::CommandCount,
+    KnownCommand::CommandDocs,
+    KnownCommand::CommandInfo,
+    KnownCommand::CommandList,
+    KnownCommand::CommandHelp,
 ];
 
-const OF_SENTINEL: &[Listed] = &[
-    Listed::SentinelMasters,
-    Listed::SentinelMaster,
-    Listed::SentinelReplicas,
-    Listed::SentinelSlaves,
-    Listed::SentinelSentinels,
-    Listed::SentinelMyId,
-    Listed::SentinelCkQuorum,
-    Listed::SentinelFailover,
-    Listed::SentinelFlushConfig,
-    Listed::SentinelGetMasterAddr,
-    Listed::SentinelIsMasterDown,
-    Listed::SentinelHelp,
-    Listed::SentinelPendingScripts,
-    Listed::SentinelInfoCache,
-    Listed::SentinelConfig,
+const OF_SENTINEL: &[KnownCommand] = &[
+    KnownCommand::SentinelMasters,
+    KnownCommand::SentinelMaster,
+    KnownCommand::SentinelReplicas,
+    KnownCommand::SentinelSlaves,
+    KnownCommand::SentinelSentinels,
+    KnownCommand::SentinelMyId,
+    KnownCommand::SentinelCkQuorum,
+    KnownCommand::SentinelFailover,
+    KnownCommand::SentinelFlushConfig,
+    KnownCommand::SentinelGetMasterAddr,
+    KnownCommand::SentinelIsMasterDown,
+    KnownCommand::SentinelHelp,
+    KnownCommand::SentinelPendingScripts,
+    KnownCommand::SentinelInfoCache,
+    KnownCommand::SentinelConfig,
 ];
 
 /// The commands that aren't subcommands.
-pub(crate) fn families() -> &'static [Listed]
+pub(crate) fn families() -> &'static [KnownCommand]
     ensures { result.now ≡ families }
 {
     FAMILIES
 }
 
 /// Each of these with its subcommands after it.
-pub(crate) fn all_listed() -> &'static [Listed]
-    ensures { result.now ≡ all_listed }
+pub(crate) fn all_commands() -> &'static [KnownCommand]
+    ensures { result.now ≡ all_commands }
 {
-    LISTED
+    COMMANDS
 }
 
-impl Listed {
+impl KnownCommand {
     /// Its name, that of a subcommand after that of its command.
     pub(crate) fn name(self) -> &'static [u8]
         ensures { result.now ≡ name self }
     {
         match self {
-            Listed::Ping => b"ping",
-            Listed::Hello => b"hello",
-            Listed::Auth => b"auth",
-            Listed::Client => b"client",
-            Listed::Command => b"command",
-            Listed::Role => b"role",
-            Listed::Publish => b"publish",
-            Listed::Info => b"info",
-            Listed::Sentinel => b"sentinel",
-            Listed::Subscribe => b"subscribe",
-            Listed::Unsubscribe => b"unsubscribe",
-            Listed::PSubscribe => b"psubscribe",
-            Listed::PUnsubscribe => b"punsubscribe",
-            Listed::ClientSetName => b"client|setname",
-            Listed::ClientGetName => b"client|getname",
-            Listed::ClientId => b"client|id",
-            Listed::ClientList => b"client|list",
-            Listed::ClientInfo => b"client|info",
-            Listed::ClientKill => b"client|kill",
-            Listed::ClientNoEvict => b"client|no-evict",
-            Listed::ClientReply => b"client|reply",
-            Listed::ClientHelp => b"client|help",
-            Listed::CommandCount => b"command|count",
-            Listed::CommandDocs => b"command|docs",
-            Listed::CommandInfo => b"command|info",
-            Listed::CommandList => b"command|list",
-            Listed::CommandHelp => b"command|help",
-            Listed::SentinelMasters => b"sentinel|masters",
-            Listed::SentinelMaster => b"sentinel|master",
-            Listed::SentinelReplicas => b"sentinel|replicas",
-            Listed::SentinelSlaves => b"sentinel|slaves",
-            Listed::SentinelSentinels => b"sentinel|sentinels",
-            Listed::SentinelMyId => b"sentinel|myid",
-            Listed::SentinelCkQuorum => b"sentinel|ckquorum",
-            Listed::SentinelFailover => b"sentinel|failover",
-            Listed::SentinelFlushConfig => b"sentinel|flushconfig",
-            Listed::SentinelGetMasterAddr => b"sentinel|get-master-addr-by-name",
-            Listed::SentinelIsMasterDown => b"sentinel|is-master-down-by-addr",
-            Listed::SentinelHelp => b"sentinel|help",
-            Listed::SentinelPendingScripts => b"sentinel|pending-scripts",
-            Listed::SentinelInfoCache => b"sentinel|info-cache",
-            Listed::SentinelConfig => b"sentinel|config",
+            KnownCommand::Ping => b"ping",
+            KnownCommand::Hello => b"hello",
+            KnownCommand::Auth => b"auth",
+            KnownCommand::Client => b"client",
+            KnownCommand::Command => b"command",
+            KnownCommand::Role => b"role",
+            KnownCommand::Publish => b"publish",
+            KnownCommand::Info => b"info",
+            KnownCommand::Sentinel => b"sentinel",
+            KnownCommand::Subscribe => b"subscribe",
+            KnownCommand::Unsubscribe => b"unsubscribe",
+            KnownCommand::PSubscribe => b"psubscribe",
+            KnownCommand::PUnsubscribe => b"punsubscribe",
+            _ => self.sub_name(),
+        }
+    }
+
+    /// The name of a subcommand; none of another command.
+    fn sub_name(self) -> &'static [u8]
+        ensures { is_sub self ≡ true → result.now ≡ name self }
+    {
+        match self {
+            KnownCommand::ClientSetName => b"client|setname",
+            KnownCommand::ClientGetName => b"client|getname",
+            KnownCommand::ClientId => b"client|id",
+            KnownCommand::ClientList => b"client|list",
+            KnownCommand::ClientInfo => b"client|info",
+            KnownCommand::ClientKill => b"client|kill",
+            KnownCommand::ClientNoEvict => b"client|no-evict",
+            KnownCommand::ClientReply => b"client|reply",
+            KnownCommand::ClientHelp => b"client|help",
+            KnownCommand::CommandCount => b"command|count",
+            KnownCommand::CommandDocs => b"command|docs",
+            KnownCommand::CommandInfo => b"command|info",
+            KnownCommand::CommandList => b"command|list",
+            KnownCommand::CommandHelp => b"command|help",
+            KnownCommand::SentinelMasters => b"sentinel|masters",
+            KnownCommand::SentinelMaster => b"sentinel|master",
+            KnownCommand::SentinelReplicas => b"sentinel|replicas",
+            KnownCommand::SentinelSlaves => b"sentinel|slaves",
+            KnownCommand::SentinelSentinels => b"sentinel|sentinels",
+            KnownCommand::SentinelMyId => b"sentinel|myid",
+            KnownCommand::SentinelCkQuorum => b"sentinel|ckquorum",
+            KnownCommand::SentinelFailover => b"sentinel|failover",
+            KnownCommand::SentinelFlushConfig => b"sentinel|flushconfig",
+            KnownCommand::SentinelGetMasterAddr => b"sentinel|get-master-addr-by-name",
+            KnownCommand::SentinelIsMasterDown => b"sentinel|is-master-down-by-addr",
+            KnownCommand::SentinelHelp => b"sentinel|help",
+            KnownCommand::SentinelPendingScripts => b"sentinel|pending-scripts",
+            KnownCommand::SentinelInfoCache => b"sentinel|info-cache",
+            KnownCommand::SentinelConfig => b"sentinel|config",
+            _ => b"",
         }
     }
 
@@ -221,48 +231,22 @@ impl Listed {
         ensures { result ≡ arity self }
     {
         match self {
-            Listed::Ping => -1,
-            Listed::Hello => -1,
-            Listed::Auth => -2,
-            Listed::Client => -2,
-            Listed::Command => -1,
-            Listed::Role => 1,
-            Listed::Publish => 3,
-            Listed::Info => -1,
-            Listed::Sentinel => -2,
-            Listed::Subscribe => -2,
-            Listed::Unsubscribe => -1,
-            Listed::PSubscribe => -2,
-            Listed::PUnsubscribe => -1,
-            Listed::ClientSetName => 3,
-            Listed::ClientGetName => 2,
-            Listed::ClientId => 2,
-            Listed::ClientList => -2,
-            Listed::ClientInfo => 2,
-            Listed::ClientKill => -3,
-            Listed::ClientNoEvict => 3,
-            Listed::ClientReply => 3,
-            Listed::ClientHelp => 2,
-            Listed::CommandCount => 2,
-            Listed::CommandDocs => -2,
-            Listed::CommandInfo => -2,
-            Listed::CommandList => -2,
-            Listed::CommandHelp => 2,
-            Listed::SentinelMasters => 2,
-            Listed::SentinelMaster => 3,
-            Listed::SentinelReplicas => 3,
-            Listed::SentinelSlaves => 3,
-            Listed::SentinelSentinels => 3,
-            Listed::SentinelMyId => 2,
-            Listed::SentinelCkQuorum => 3,
-            Listed::SentinelFailover => 3,
-            Listed::SentinelFlushConfig => 2,
-            Listed::SentinelGetMasterAddr => 3,
-            Listed::SentinelIsMasterDown => 6,
-            Listed::SentinelHelp => 2,
-            Listed::SentinelPendingScripts => 2,
-            Listed::SentinelInfoCache => -3,
-            Listed::SentinelConfig => -3,
+            KnownCommand::Ping | KnownCommand::Hello | KnownCommand::Command => -1,
+            KnownCommand::Info | KnownCommand::Unsubscribe | KnownCommand::PUnsubscribe => -1,
+            KnownCommand::Auth | KnownCommand::Client | KnownCommand::Sentinel => -2,
+            KnownCommand::Subscribe | KnownCommand::PSubscribe | KnownCommand::ClientList => -2,
+            KnownCommand::CommandDocs | KnownCommand::CommandInfo => -2,
+            KnownCommand::CommandList => -2,
+            KnownCommand::Role => 1,
+            KnownCommand::ClientGetName | KnownCommand::ClientId | KnownCommand::ClientInfo => 2,
+            KnownCommand::ClientHelp | KnownCommand::CommandCount => 2,
+            KnownCommand::CommandHelp | KnownCommand::SentinelMasters => 2,
+            KnownCommand::SentinelMyId | KnownCommand::SentinelFlushConfig => 2,
+            KnownCommand::SentinelHelp | KnownCommand::SentinelPendingScripts => 2,
+            KnownCommand::ClientKill | KnownCommand::SentinelInfoCache => -3,
+            KnownCommand::SentinelConfig => -3,
+            KnownCommand::SentinelIsMasterDown => 6,
+            _ => 3,
         }
     }
 
@@ -271,59 +255,36 @@ impl Listed {
         ensures { result ≡ class_of self }
     {
         match self {
-            Listed::Ping => Class::Probe,
-            Listed::Hello => Class::Greeting,
-            Listed::Auth => Class::Greeting,
-            Listed::Client => Class::Container,
-            Listed::Command => Class::Table,
-            Listed::Role => Class::Status,
-            Listed::Publish => Class::Publishing,
-            Listed::Info => Class::Figures,
-            Listed::Sentinel => Class::Ruled,
-            Listed::Subscribe => Class::Listening,
-            Listed::Unsubscribe => Class::Listening,
-            Listed::PSubscribe => Class::Listening,
-            Listed::PUnsubscribe => Class::Listening,
-            Listed::ClientSetName => Class::Own,
-            Listed::ClientGetName => Class::Own,
-            Listed::ClientId => Class::Own,
-            Listed::ClientList => Class::Clients,
-            Listed::ClientInfo => Class::OwnLine,
-            Listed::ClientKill => Class::Control,
-            Listed::ClientNoEvict => Class::Control,
-            Listed::ClientReply => Class::Own,
-            Listed::ClientHelp => Class::Counting,
-            Listed::CommandCount => Class::Counting,
-            Listed::CommandDocs => Class::Table,
-            Listed::CommandInfo => Class::Table,
-            Listed::CommandList => Class::Table,
-            Listed::CommandHelp => Class::Counting,
-            Listed::SentinelMasters => Class::Ruled,
-            Listed::SentinelMaster => Class::Ruled,
-            Listed::SentinelReplicas => Class::Ruled,
-            Listed::SentinelSlaves => Class::Ruled,
-            Listed::SentinelSentinels => Class::Ruled,
-            Listed::SentinelMyId => Class::Ruled,
-            Listed::SentinelCkQuorum => Class::Ruled,
-            Listed::SentinelFailover => Class::Ruled,
-            Listed::SentinelFlushConfig => Class::Ruled,
-            Listed::SentinelGetMasterAddr => Class::Ruled,
-            Listed::SentinelIsMasterDown => Class::Ruled,
-            Listed::SentinelHelp => Class::Advice,
-            Listed::SentinelPendingScripts => Class::Ruled,
-            Listed::SentinelInfoCache => Class::Ruled,
-            Listed::SentinelConfig => Class::Ruled,
+            KnownCommand::Ping => Class::Probe,
+            KnownCommand::Hello | KnownCommand::Auth => Class::Greeting,
+            KnownCommand::Client => Class::Container,
+            KnownCommand::Command | KnownCommand::CommandDocs => Class::Table,
+            KnownCommand::CommandInfo | KnownCommand::CommandList => Class::Table,
+            KnownCommand::Role => Class::Status,
+            KnownCommand::Publish => Class::Publishing,
+            KnownCommand::Info => Class::Figures,
+            KnownCommand::Subscribe | KnownCommand::Unsubscribe => Class::Listening,
+            KnownCommand::PSubscribe | KnownCommand::PUnsubscribe => Class::Listening,
+            KnownCommand::ClientSetName | KnownCommand::ClientGetName => Class::Own,
+            KnownCommand::ClientId | KnownCommand::ClientReply => Class::Own,
+            KnownCommand::ClientList => Class::Clients,
+            KnownCommand::ClientInfo => Class::OwnLine,
+            KnownCommand::ClientKill | KnownCommand::ClientNoEvict => Class::Control,
+            KnownCommand::ClientHelp | KnownCommand::CommandCount => Class::Counting,
+            KnownCommand::CommandHelp => Class::Counting,
+            KnownCommand::SentinelHelp => Class::Advice,
+            _ => Class::Ruled,
         }
     }
 
     /// Its subcommands.
-    pub(crate) fn subs(self) -> &'static [Listed]
+    pub(crate) fn subs(self) -> &'static [KnownCommand]
         ensures { result.now ≡ subs_of self }
     {
         match self {
-            Listed::Client => OF_CLIENT,
-            Listed::Command => OF_COMMAND,
-            Listed::Sentinel => OF_SENTINEL,
+            KnownCommand::Client => OF_CLIENT,
+            KnownCommand::Command => OF_COMMAND,
+            KnownCommand::Sentinel => OF_SENTINEL,
             _ => &[],
         }
     }

@@ -5,4 +5,4 @@ use Rattle.client_commands.proofs.tables.add_description.Goals as goal
 
 pub returns : goal.returns
 returns c =
-    set_to c.add_fields.result c.add_fields.new.out _ _ (ap (λ (t : List ℕ). c.args.out.now ++ t) (sym (fields_are c.args.listed))) c.add_fields.ensures
+    set_to c.add_fields.result c.add_fields.new.out _ _ (ap (λ (t : List ℕ). c.args.out.now ++ t) (sym (fields_are c.args.command))) c.add_fields.ensures
