@@ -190,11 +190,11 @@ fn named(word: &[u8]) -> Option<KnownCommand>
     None
 }
 
-/// Adds a row, or null where there is none.
-fn add_row_or_null(out: &mut OutText, command: Option<KnownCommand>) -> Result<(), NoMemory>
-    ensures { OnOk result (out.new ≡ out.old ++ spelling (row_or_null command)) }
+/// Adds the row that a word names, or null where it names none.
+fn add_row_named(out: &mut OutText, word: &[u8]) -> Result<(), NoMemory>
+    ensures { OnOk result (out.new ≡ out.old ++ spelling (row_or_null (named all_commands word.now))) }
 {
-    match command {
+    match named(word) {
         Some(command) => add_row(out, command),
         None => out.add(b"$-1\r\n"),
     }
@@ -206,7 +206,7 @@ fn add_rows_named(out: &mut OutText, words: &[Text]) -> Result<(), NoMemory>
 {
     let mut rest = words;
     while let [word, more @ ..] = rest {
-        add_row_or_null(out, named(word.as_slice()))?;
+        add_row_named(out, word.as_slice())?;
         rest = more;
     }
     Ok(())
@@ -498,6 +498,14 @@ fn matching(alloc: Global, pattern: &[u8]) -> Result<Vec<KnownCommand>, NoMemory
     Ok(some)
 }
 
+/// Those whose names match the word, whatever the case of its letters.
+fn matching_word(alloc: Global, word: &[u8]) -> Result<Vec<KnownCommand>, NoMemory>
+    ensures { IfOk result (λ some. some.items ≡ matching (lower word.now) all_commands) }
+{
+    let pattern = lowered(alloc, word)?;
+    matching(alloc, pattern.as_slice())
+}
+
 /// The answer is the names of those in a category of access.
 fn say_category(alloc: Global, word: &[u8], out: &mut OutText) -> Result<(), NoMemory>
     ensures { OnOk result (out.new ≡ spelling (texts (names_of (in_category word.now all_commands)))) }
@@ -510,8 +518,7 @@ fn say_category(alloc: Global, word: &[u8], out: &mut OutText) -> Result<(), NoM
 fn say_matching(alloc: Global, word: &[u8], out: &mut OutText) -> Result<(), NoMemory>
     ensures { OnOk result (out.new ≡ spelling (texts (names_of (matching (lower word.now) all_commands)))) }
 {
-    let pattern = lowered(alloc, word)?;
-    let some = matching(alloc, pattern.as_slice())?;
+    let some = matching_word(alloc, word)?;
     say_names(out, some.as_slice())
 }
 

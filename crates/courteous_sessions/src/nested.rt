@@ -96,11 +96,10 @@ fn kind_in_rows(items: &[Value]) -> u8
 fn kind_after_text(items: &[Value]) -> u8
     ensures { result ≡ kind_after_text (frames_view items.now) }
 {
-    if !is_one_text(items) && count_of(items) % 2 == 1 {
-        b'%'
-    } else {
-        b'*'
+    if is_one_text(items) {
+        return b'*';
     }
+    if count_of(items) % 2 == 1 { b'%' } else { b'*' }
 }
 
 /// That of this item and more of them in a description.
