@@ -1,5 +1,5 @@
 -- How protocol 3 tells what COMMAND answers: each array by what it holds.
-use Rattle.std.specs.Prelude.{◌++◌, ◌∷◌, ◌/◌, ◌%◌, ◌&&◌, ◌==◌, ℕ, Bool, true, false, List, [], decimal}
+use Rattle.std.specs.Prelude.{◌++◌, ◌∷◌, ◌/◌, ◌%◌, ◌||◌, ◌&&◌, ◌==◌, ℕ, Bool, true, false, List, [], decimal}
 use Rattle.resp2.specs.Framing.Frame.{Frame, FrameList, simple, fault, int, bulk, null_bulk, items, null_items, no_frames, frame, count, line_end, spelling}
 use Rattle.courteous_sessions.specs.declared.nested.Manner.{Manner}
 use Rattle.courteous_sessions.specs.declared.nested.Manner.TheVariants.{AsTwo, InRows, InDocs}
@@ -13,6 +13,10 @@ is_number f = false
 abbrev pub is_text : Frame → Bool
 is_text (bulk bytes) = true
 is_text f = false
+
+abbrev pub is_list : Frame → Bool
+is_list (items fs) = true
+is_list f = false
 
 abbrev pub is_odd : ℕ → Bool
 is_odd n = n % 2 == 1
@@ -33,10 +37,10 @@ is_change (frame f fs) = is_text f && is_one_text fs
 
 -- ---- the byte of an array's kind: * of an array, ~ of a set, % of a map
 
--- a row of COMMAND begins with a name and a number; what a row holds is a set
+-- a row of COMMAND begins with a name and a number; what a row holds is a set, but for the rows of subcommands
 abbrev pub kind_in_rows : FrameList → ℕ
 kind_in_rows no_frames = 126
-kind_in_rows (frame f fs) = elim (begins_with_number fs) [ true ↦ 42 | false ↦ 126 ]
+kind_in_rows (frame f fs) = elim (is_list f || begins_with_number fs) [ true ↦ 42 | false ↦ 126 ]
 
 -- after a text: its version's change, or names and values, of which the text is the first
 abbrev pub kind_after_text : FrameList → ℕ

@@ -3,7 +3,7 @@
 ghost use Rattle.std.specs.Prelude.{◌≡◌, ◌++◌, ◌∷◌, OnOk, IfOk, decimal};
 ghost use Rattle.resp2.specs.Framing.Frame as frames;
 ghost use Rattle.resp2.specs.Framing.Frame.{view, frames_view, line_end, spelling};
-ghost use Rattle.courteous_sessions.specs.Nested.{is_number, is_text, is_odd, begins_with_number, is_one_text, is_change, kind_in_rows, kind_after_text, kind_begun, kind_in_docs, kind_in, number_of, null_in, spelling_in, spellings_in, rows_spelling};
+ghost use Rattle.courteous_sessions.specs.Nested.{is_number, is_text, is_list, is_odd, begins_with_number, is_one_text, is_change, kind_in_rows, kind_after_text, kind_begun, kind_in_docs, kind_in, number_of, null_in, spelling_in, spellings_in, rows_spelling};
 
 use crate::retelling::{NULL, after_line};
 use ballot_law::{NoMemory, Text};
@@ -40,6 +40,16 @@ fn is_text(value: &Value) -> bool
 {
     match value {
         Value::Bulk(_) => true,
+        _ => false,
+    }
+}
+
+/// Whether it is an array.
+fn is_list(value: &Value) -> bool
+    ensures { result ≡ is_list (view value.now) }
+{
+    match value {
+        Value::Items(_) => true,
         _ => false,
     }
 }
