@@ -498,14 +498,6 @@ fn matching(alloc: Global, pattern: &[u8]) -> Result<Vec<KnownCommand>, NoMemory
     Ok(some)
 }
 
-/// Those whose names match the word, whatever the case of its letters.
-fn matching_word(alloc: Global, word: &[u8]) -> Result<Vec<KnownCommand>, NoMemory>
-    ensures { IfOk result (λ some. some.items ≡ matching (lower word.now) all_commands) }
-{
-    let pattern = lowered(alloc, word)?;
-    matching(alloc, pattern.as_slice())
-}
-
 /// The answer is the names of those in a category of access.
 fn say_category(alloc: Global, word: &[u8], out: &mut OutText) -> Result<(), NoMemory>
     ensures { OnOk result (out.new ≡ spelling (texts (names_of (in_category word.now all_commands)))) }
@@ -514,12 +506,20 @@ fn say_category(alloc: Global, word: &[u8], out: &mut OutText) -> Result<(), NoM
     say_names(out, some.as_slice())
 }
 
+/// The answer is the names that match the pattern.
+fn say_pattern(alloc: Global, pattern: &[u8], out: &mut OutText) -> Result<(), NoMemory>
+    ensures { OnOk result (out.new ≡ spelling (texts (names_of (matching pattern.now all_commands)))) }
+{
+    let some = matching(alloc, pattern)?;
+    say_names(out, some.as_slice())
+}
+
 /// The answer is the names that match the word, whatever the case of its letters.
 fn say_matching(alloc: Global, word: &[u8], out: &mut OutText) -> Result<(), NoMemory>
     ensures { OnOk result (out.new ≡ spelling (texts (names_of (matching (lower word.now) all_commands)))) }
 {
-    let some = matching_word(alloc, word)?;
-    say_names(out, some.as_slice())
+    let pattern = lowered(alloc, word)?;
+    say_pattern(alloc, pattern.as_slice(), out)
 }
 
 /// The answer to COMMAND LIST FILTERBY with this filter and this word.
