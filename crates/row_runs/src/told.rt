@@ -67,7 +67,7 @@ impl From<NoMemory> for Unplayed {
 const ROOM: usize = 65_536;
 
 /// The hexadecimal digits.
-const DIGITS: [u8; 16] = *b"0123456789abcdef";
+const DIGITS: &[u8] = b"0123456789abcdef";
 
 /// Words that tell what comes, with a blank between two. Where memory lacks for a part of them that is noted, and `end`
 /// says it.
@@ -130,6 +130,13 @@ impl Told {
         self.is_cut |= write!(self.text, "{value}").is_err();
     }
 
+    /// Adds the hexadecimal digit of a number below 16.
+    fn digit(&mut self, number: u8) {
+        if let Some(digit) = DIGITS.get(usize::from(number)) {
+            self.push(char::from(*digit));
+        }
+    }
+
     /// Adds a byte as a row spells it.
     fn byte(&mut self, byte: u8) {
         match byte {
@@ -141,8 +148,8 @@ impl Told {
             33..=126 => self.push(char::from(byte)),
             _ => {
                 self.add("\\x");
-                self.push(char::from(DIGITS[usize::from(byte / 16)]));
-                self.push(char::from(DIGITS[usize::from(byte % 16)]));
+                self.digit(byte / 16);
+                self.digit(byte % 16);
             }
         }
     }

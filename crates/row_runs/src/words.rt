@@ -262,7 +262,11 @@ pub(crate) fn is_in(words: &[Vec<u8>], wanted: &[u8]) -> bool {
 pub(crate) fn split<'a>(words: &'a [Vec<u8>], mark: &[u8]) -> (&'a [Vec<u8>], &'a [Vec<u8>]) {
     for (place, word) in words.iter().enumerate() {
         if word.as_slice() == mark {
-            return (&words[..place], &words[place + 1..]);
+            let (front, back) = words.split_at(place);
+            return match back.split_first() {
+                Some((_, rest)) => (front, rest),
+                None => (front, &[]),
+            };
         }
     }
     (words, &[])
