@@ -67,22 +67,24 @@ fn opened(alloc: Global, file: &[u8], courteous: bool) -> Result<Sentinel, Unpla
     }
 }
 
-/// Tells the share of the first seat of a Sentinel that is shared by this number of seats, or why it isn't shared so.
-fn tell_seats(alloc: Global, file: &[u8], seats: u64, told: &mut Told) -> Result<(), Unplayed> {
+/// The share of the first seat of a Sentinel that is shared by this number of seats, or why it isn't shared so.
+fn share_of(alloc: Global, file: &[u8], seats: u64) -> Result<Result<u64, CellFault>, Unplayed> {
     let store = store(alloc, file, false)?;
     let sentinel = opened(alloc, file, false)?;
     match SharedSentinel::new(alloc, sentinel, store, seats) {
-        Ok((_, seat)) => {
-            let share = seat.share();
-            told.number(share);
-            Ok(())
-        }
-        Err((_, CellFault::NoMemory)) => Err(Unplayed::NoMemory),
-        Err((_, fault)) => {
-            told.shown(&fault);
-            Ok(())
-        }
+        Ok((_, seat)) => Ok(Ok(seat.share())),
+        Err((_, fault)) => Ok(Err(fault)),
     }
+}
+
+/// Tells it.
+fn tell_seats(alloc: Global, words: &mut Words, told: &mut Told) -> Result<(), Unplayed> {
+    match share_of(alloc, words.next(), words.number())? {
+        Ok(share) => told.number(share),
+        Err(CellFault::NoMemory) => return Err(Unplayed::NoMemory),
+        Err(fault) => told.shown(&fault),
+    }
+    Ok(())
 }
 
 /// A store with this text, which refuses its first text if that is wanted.
@@ -354,7 +356,7 @@ impl Conversations {
             "courteous_conversation" => self.begin(true, words),
             "each_cut" => self.tell_cuts(rt, false, words, told),
             "each_courteous_cut" => self.tell_cuts(rt, true, words, told),
-            "seats" => tell_seats(self.alloc, words.next(), words.number(), told),
+            "seats" => tell_seats(self.alloc, words, told),
             _ => match &mut self.talk {
                 Some(talk) => talk.play(rt, call, words, told),
                 None => Err(Unplayed::OutOfRange),
