@@ -175,7 +175,8 @@ fn tell_warnings(
     words: &mut Words,
     told: &mut Told,
 ) -> Result<(), Unplayed> {
-    let (known, sentinels) = (Directives::of_redis(), words.number());
+    let known = Directives::of_redis();
+    let sentinels = words.number();
     let file = words.joined(alloc)?;
     let mut out = Vec::from_slice(alloc, BEFORE)?;
     if call == "add_warnings" {

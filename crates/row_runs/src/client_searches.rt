@@ -98,9 +98,7 @@ impl Searches {
 
     /// Tells what the search does once it heard what came of its last move.
     fn go_on(&mut self, call: &str, words: &mut Words, told: &mut Told) -> Result<(), Unplayed> {
-        let Some(quest) = &mut self.quest else {
-            return Err(Unplayed::OutOfRange);
-        };
+        let quest = self.quest.as_mut().ok_or(Unplayed::OutOfRange)?;
         if !hear(quest, call, words)? {
             told.word("no");
         }

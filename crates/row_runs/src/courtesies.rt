@@ -150,8 +150,9 @@ fn tell(
 fn tell_info(alloc: Global, words: &mut Words, told: &mut Told) -> Result<(), Unplayed> {
     let masters = value_of(alloc, words.next())?;
     let asked = array(alloc, words.rest())?;
+    let figures = FIGURES;
     let mut out = OutText::new(alloc);
-    info(alloc, &asked, &FIGURES, &masters, &mut out)?;
+    info(alloc, &asked, &figures, &masters, &mut out)?;
     told.bytes(out.as_slice());
     Ok(())
 }

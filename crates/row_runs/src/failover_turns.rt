@@ -209,9 +209,7 @@ impl Turns {
 
     /// A turn at this moment: the row that it takes.
     fn turn(&mut self, now: u64) -> Result<Option<Row>, Unplayed> {
-        let Some(failover) = &mut self.failover else {
-            return Err(Unplayed::OutOfRange);
-        };
+        let failover = self.failover.as_mut().ok_or(Unplayed::OutOfRange)?;
         let act = failover.turn(&Facts {
             now,
             down: &self.down,
@@ -233,10 +231,10 @@ impl Turns {
             "know" => self.know(words)?,
             "turn" => told.word(row_name(self.turn(words.number())?)),
             "vote" => told.maybe_id(self.vote),
-            _ => match &mut self.failover {
-                Some(failover) => play_failover(failover, call, words, told)?,
-                None => return Err(Unplayed::OutOfRange),
-            },
+            _ => {
+                let failover = self.failover.as_mut().ok_or(Unplayed::OutOfRange)?;
+                play_failover(failover, call, words, told)?;
+            }
         }
         Ok(())
     }

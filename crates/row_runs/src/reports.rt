@@ -98,7 +98,8 @@ pub(crate) fn play(
 ) -> Result<(), Unplayed> {
     match call {
         "lines" => {
-            let (conf, front) = (conf_of(alloc, words.next())?, words.next());
+            let conf = conf_of(alloc, words.next())?;
+            let front = words.next();
             let mut report = Report::new(alloc);
             add_entries(&mut report, conf.roster(), words)?;
             tell_lines(&report, front, alloc, told)
