@@ -1,6 +1,6 @@
 //! How protocol 3 tells what COMMAND answers: rows and descriptions, whose arrays are sets or maps by what they hold.
 
-ghost use Rattle.std.specs.Prelude.{◌≡◌, ◌++◌, ◌∷◌, OnOk, IfOk, decimal};
+ghost use Rattle.std.specs.Prelude.{◌≡◌, ◌++◌, ◌∷◌, ◌||◌, OnOk, IfOk, decimal};
 ghost use Rattle.resp2.specs.Framing.Frame as frames;
 ghost use Rattle.resp2.specs.Framing.Frame.{view, frames_view, line_end, spelling};
 ghost use Rattle.courteous_sessions.specs.Nested.{is_number, is_text, is_list, is_odd, begins_with_number, is_one_text, is_change, kind_in_rows, kind_after_text, kind_begun, kind_in_docs, kind_in, number_of, null_in, spelling_in, spellings_in, rows_spelling};
@@ -92,12 +92,26 @@ fn is_change(items: &[Value]) -> bool
     }
 }
 
+/// Whether these are a row, or rows of subcommands.
+fn stays_array(first: &Value, more: &[Value]) -> bool
+    ensures { result ≡ (is_list (view first.now) || begins_with_number (frames_view more.now)) }
+{
+    is_list(first) || begins_with_number(more)
+}
+
+/// The byte of the kind of this item and more of them in a row.
+fn kind_of_cells(first: &Value, more: &[Value]) -> u8
+    ensures { result ≡ kind_in_rows (frames.frame (view first.now) (frames_view more.now)) }
+{
+    if stays_array(first, more) { b'*' } else { b'~' }
+}
+
 /// The byte of the kind of these items in a row.
 fn kind_in_rows(items: &[Value]) -> u8
     ensures { result ≡ kind_in_rows (frames_view items.now) }
 {
     match items.split_first() {
-        Some((_, more)) => { if begins_with_number(more) { b'*' } else { b'~' } }
+        Some((first, more)) => kind_of_cells(first, more),
         None => b'~',
     }
 }
