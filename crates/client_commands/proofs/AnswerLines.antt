@@ -12,6 +12,7 @@ use Rattle.client_commands.specs.declared.subcommands.Sub.TheVariants.{Help, Pen
 use Rattle.client_commands.specs.declared.hellos.Expects.{Expects}
 use Rattle.client_commands.specs.declared.hellos.Expects.TheVariants.{Start, User, Password, NewName}
 use Rattle.client_commands.specs.Refusals.{is_called, printed_byte, printed, wrong_arguments, unknown_subcommand, shown_words, unknown_command, no_option, wrong_password, no_password, no_auth, no_auth_yet, no_name, not_while_listening}
+use Rattle.resp2.proofs.PlainLines.{is_plain_byte, plain, checked, joined}
 use Rattle.resp2.specs.Commands.{redis_command_of}
 use Rattle.client_commands.specs.Courtesies as table
 use Rattle.client_commands.specs.declared.choosing.ClientKind.{ClientKind}
@@ -20,30 +21,10 @@ use Rattle.client_commands.specs.Subcommands.{sub_name, all_subs, sub_among, tak
 use Rattle.client_commands.specs.Helps.{sentinel_help, client_help, command_help}
 use Rattle.client_commands.specs.declared.protocols.Protocol.{Protocol}
 use Rattle.client_commands.specs.Protocols.{protocol_asked}
-use Rattle.client_commands.specs.Courtesies.{ClientInfo, MonitoredMaster, Answer, left, said, asks_masters, silent, Looked, known, refused, verb_name, Greeted, greeted, expected, taken, is_user, is_password, is_some, admits, is_stranger, lacks_password, greeted_by, is_client_name, is_integer, after_first, first, or_else, hello_map, answered, asks_nothing, reply_to, courtesy, left_over, or_left}
+use Rattle.client_commands.specs.Courtesies.{ClientInfo, MonitoredMaster, Answer, left, said, asks_masters, silent, Looked, known, refused, verb_name, Greeted, greeted, expected, taken, is_user, is_password, is_some, admits, is_stranger, lacks_password, greeted_by, is_client_name, is_integer, after_first, first, or_else, hello_map, answered, asks_nothing, reply_to, courtesy, or_left}
 use Rattle.client_commands.proofs.Silence.{asked_is, unasked_is}
 
 -- ---- lines
-
-abbrev is_plain_byte : ℕ → Bool
-is_plain_byte b = not ((b == 13) || (b == 10))
-
-plain : (b : ℕ) → is_plain_byte b ≡ true → (b ≢ 13) × (b ≢ 10)
-plain b h = (
-  (λ e. let never : false ≡ true = subst (λ (x : ℕ). is_plain_byte x ≡ true) e h in absurd (cc)),
-  (λ e. let never : false ≡ true = subst (λ (x : ℕ). is_plain_byte x ≡ true) e h in absurd (cc)),
-)
-
--- a text of the program, by a test that computes
-pub checked : (text : List ℕ) → list_all is_plain_byte text ≡ true → IsLine text
-checked [] h = tt
-checked (b ∷ text) h =
-    let both = and_parts (is_plain_byte b) (list_all is_plain_byte text) h in
-    (plain b both.0, checked text both.1)
-
-pub joined : (one two : List ℕ) → IsLine one → IsLine two → IsLine (one ++ two)
-joined [] two h k = k
-joined (b ∷ one) two h k = (h.0, joined one two h.1 k)
 
 around : (before word after : List ℕ) → list_all is_plain_byte before ≡ true → IsLine word → IsLine after → IsLine (before ++ (word ++ after))
 around before word after h k l = joined before (word ++ after) (checked before h) (joined word after k l)

@@ -11,3 +11,4 @@ pub mod Parts
 pub mod Silence
 pub mod Strangers
 pub mod SubBytes
+pub mod SubNames

@@ -1,7 +1,6 @@
 -- What a reader of a stream with lines answers.
-use Rattle.std.proofs.Common.{◌≡◌, ◌∙◌, ℕ, ◌<◌, ◌≤◌, true, false, List, length, drop, Option, Some, None, Result, Ok, Err, refl, sym, ap, arith, true≢false}
+use Rattle.std.proofs.Common.{◌≡◌, ◌∙◌, ℕ, true, false, List, drop, Option, Some, None, Result, Ok, Err, refl, sym, true≢false}
 use Rattle.std.specs.Prelude.{IfSome}
-use Rattle.std.proofs.lemmas.List.{length-drop}
 use Rattle.ballot_law.specs.declared.commands.Command.{Command}
 use Rattle.resp2.specs.Asked.{Asks}
 use Rattle.resp2.specs.declared.framing.fault.FrameFault.{FrameFault}
@@ -10,7 +9,7 @@ use Rattle.resp2.specs.declared.framing.value.Value.{Value}
 use Rattle.resp2.specs.Framing.Frame.{view, HasLines}
 use Rattle.resp2.specs.Framing.Reading.{frame_at}
 use Rattle.resp2.specs.Framing.Stream as streams
-use Rattle.resp2.specs.Framing.Stream.{Held, reading, ended, bytes_in, held_size}
+use Rattle.resp2.specs.Framing.Stream.{Held, reading, ended, bytes_in}
 use Rattle.resp2.proofs.FramingLemmas.HaveLines.{plain_lines}
 use Rattle.client_commands.specs.declared.lines.Line.TheVariants.{Whole, Open, Broken}
 use Rattle.client_commands.specs.Attendants.{TakesCommon}
@@ -54,10 +53,6 @@ pub broken_answered : (before after : Held) (answer : Result (Option Value) Fram
 broken_answered before after answer begins found h =
     answers_same before after answer (as_line (bytes_in before) begins ∙ found ∙ sym (line_is_faulty (bytes_in before) begins)) h
 
-pub is_reading : (held : Held) → begins_line (bytes_in held) ≡ true → held ≡ reading (bytes_in held)
-is_reading (reading bytes) begins = refl
-is_reading (ended fault) begins = absurd (true≢false (sym begins))
-
 pub whole_answered : (before after : Held) (value : Value) (size : ℕ) → begins_line (bytes_in before) ≡ true → IsFound (Whole value size) (bytes_in before)
     → after ≡ reading (drop size (bytes_in before)) → Answers view before (Ok (Some value)) after
 whole_answered (reading bytes) after value size begins found is = (drop size bytes, as_line bytes begins ∙ found.2, is)
@@ -66,19 +61,6 @@ whole_answered (ended fault) after value size begins found is = absurd (true≢f
 pub open_answered : (before : Held) → begins_line (bytes_in before) ≡ true → IsFound Open (bytes_in before) → Answers {V = Value} view before (Ok None) before
 open_answered (reading bytes) begins found = (as_line bytes begins ∙ found, refl)
 open_answered (ended fault) begins found = absurd (true≢false (sym begins))
-
-pub refused_answered : (before : Held) → begins_line (bytes_in before) ≡ true → Answers {V = Value} view before (Err NoMemory) before
-refused_answered (reading bytes) begins = refl
-refused_answered (ended fault) begins = absurd (true≢false (sym begins))
-
-pub fewer_after : (before after : Held) (value : Value) (size : ℕ) → begins_line (bytes_in before) ≡ true → IsFound (Whole value size) (bytes_in before)
-    → after ≡ reading (drop size (bytes_in before)) → held_size after < held_size before
-fewer_after (reading bytes) after value size begins found is =
-    let now : held_size after ≡ length (drop size bytes) = ap held_size is in
-    let some : 0 < size = found.0 in
-    let within : size ≤ length bytes = found.1 in
-    omega (arith, now, some, within, length-drop size bytes)
-fewer_after (ended fault) after value size begins found is = absurd (true≢false (sym begins))
 
 pub whole_has_lines : (bytes : List ℕ) (value : Value) (size : ℕ) → begins_line bytes ≡ true → IsFound (Whole value size) bytes → HasLines (view value)
 whole_has_lines bytes value size begins found = plain_lines (view value) (value_is_frame bytes (view value) (drop size bytes) (as_line bytes begins ∙ found.2)).plain

@@ -1,7 +1,6 @@
 //! What becomes of a value.
 
 ghost use Rattle.std.specs.Prelude.{◌≡◌, ℕ, List, [], None, IfOk, OnOk};
-ghost use Rattle.resp2.specs.Commands as commands;
 ghost use Rattle.resp2.specs.Framing.Frame as frames;
 ghost use Rattle.resp2.specs.Framing.Frame.{view, frames_view, spelling};
 ghost use Rattle.client_commands.specs.Courtesies.{ClientInfo, known, executed, while_listening, name_after, admitted_after, killed_after, killed_by, or_killed, protocol_after, protocol_by, or_protocol, is_for_strangers, is_barred, admitted_by, or_admitted, words_of, is_miscounted, is_refused, names_channels, answered, named, looked_up_in, left, unless_stranger, or_left, or_same, asks_nothing, reply_to, courtesy, asker_after, kind_of, text_of};
@@ -19,7 +18,7 @@ use crate::refusals::{is_called, refuse_listener, say};
 use crate::told_subcommands::sentinel_told;
 use crate::verbs::Verb;
 use ballot_law::{Command, NoMemory, Text};
-use resp2::{CommandFault, OutText, Value, redis_command_of};
+use resp2::{CommandFault, OutText, Value, redis_command_of, words_of_items};
 use std::alloc::Global;
 
 const NO_AUTH: &[u8] = b"-NOAUTH Authentication required.\r\n";
@@ -54,29 +53,6 @@ fn is_miscounted(asked: &Result<Command, CommandFault>) -> bool
         Err(CommandFault::WrongArguments) => true,
         _ => false,
     }
-}
-
-/// The bytes of a bulk string, and none of any other value.
-fn word_of(value: &Value) -> &[u8]
-    ensures { result.now ≡ commands.word (view value.now) }
-{
-    match value {
-        Value::Bulk(bytes) => bytes.as_slice(),
-        _ => &[],
-    }
-}
-
-/// The words that the items of an array are.
-pub(crate) fn words_of_items(alloc: Global, items: &[Value]) -> Result<Vec<Text>, NoMemory>
-    ensures { IfOk result (λ words. words.items ≡ commands.words (frames_view items.now)) }
-{
-    let mut words = Vec::new(alloc);
-    let mut rest = items;
-    while let [value, more @ ..] = rest {
-        words.push(Text::from_slice(alloc, word_of(value))?)?;
-        rest = more;
-    }
-    Ok(words)
 }
 
 /// The words of a command.

@@ -20,6 +20,9 @@ pub(crate) enum Sub {
     Debug,
 }
 
+/// How many bytes of each name are `sentinel|`.
+const FAMILY: usize = 9;
+
 const ALL: &[Sub] = &[
     Sub::Help,
     Sub::PendingScripts,
@@ -41,24 +44,6 @@ fn all() -> &'static [Sub]
 }
 
 impl Sub {
-    /// How it is called.
-    fn word(self) -> &'static [u8]
-        ensures { result.now ≡ sub_word self }
-    {
-        match self {
-            Sub::Help => b"help",
-            Sub::PendingScripts => b"pending-scripts",
-            Sub::InfoCache => b"info-cache",
-            Sub::Config => b"config",
-            Sub::SetOption => b"set",
-            Sub::Monitor => b"monitor",
-            Sub::Remove => b"remove",
-            Sub::Reset => b"reset",
-            Sub::Simulate => b"simulate-failure",
-            Sub::Debug => b"debug",
-        }
-    }
-
     /// The name of the whole command.
     pub(crate) fn name(self) -> &'static [u8]
         ensures { result.now ≡ sub_name self }
@@ -75,6 +60,15 @@ impl Sub {
             Sub::Simulate => b"sentinel|simulate-failure",
             Sub::Debug => b"sentinel|debug",
         }
+    }
+
+    /// How it is called: its name without the command's own.
+    #[tactic(auto, using(crate::proofs::SubNames::name_is_long, crate::proofs::SubNames::word_behind))]
+    fn word(self) -> &'static [u8]
+        ensures { result.now ≡ sub_word self }
+    {
+        let (_, word) = self.name().split_at(FAMILY);
+        word
     }
 
     /// Whether it takes so many words.

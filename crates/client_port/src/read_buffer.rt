@@ -71,7 +71,8 @@ impl ReadBuffer {
     }
 
     /// The bytes that are handed over next: all up to the first dot. A request for a vote names an address, which has
-    /// three; so it ends in none of these that another one ends in too, and the bytes are those of at most one store.
+    /// three; so it ends in none of these that another one ends in too, and the bytes are those of at most one store,
+    /// unless the client asks for FLUSHCONFIG, or quotes the address with escapes.
     #[tactic(auto, using(crate::proofs::Sends::first_part, crate::proofs::Sends::whole_part))]
     pub(crate) fn next(&self) -> &[u8]
         ensures first { self.now ≡ result.now ++ drop (length result.now) self.now }

@@ -1,28 +1,21 @@
 -- No command of the Sentinel's rules but SUBSCRIBE changes to what a connection listens.
-use Rattle.std.proofs.Common.{◌≡◌, ◌≢◌, ◌⊎◌, inl, inr, ◌∙◌, ◌||◌, ℕ, Bool, true, false, List, [], ◌∷◌, Result, Ok, Err, refl, sym, ap}
+use Rattle.std.proofs.Common.{◌≡◌, ◌≢◌, ◌⊎◌, inl, inr, ◌∙◌, ◌||◌, ℕ, Bool, true, false, List, ◌∷◌, Result, Ok, Err, refl, sym, ap}
 use Rattle.std.specs.Prelude.{bytes_eq, codes, if◌then◌else◌}
 use Rattle.std.proofs.lemmas.Slice.Eq.{bytes_eq-Decides}
 use Rattle.ballot_law.specs.declared.commands.Command.{Command}
 use Rattle.ballot_law.specs.declared.commands.Command.TheVariants.{Ping, Subscribe}
 use Rattle.ballot_law.specs.Words.{lower}
 use Rattle.resp2.specs.declared.command.CommandFault.{CommandFault}
-use Rattle.resp2.specs.declared.command.CommandFault.TheVariants.{NotACommand, UnknownCommand, UnknownChannel}
-use Rattle.resp2.specs.Commands.{are_bulk, word, words, alone, sentinel_command, subscribe, channel, command_of_words, redis_command_of_words, redis_command_of}
-use Rattle.resp2.specs.Framing.Frame.{Frame, FrameList, no_frames, frame, simple, fault, int, bulk, null_bulk, items, null_items}
+use Rattle.resp2.specs.declared.command.CommandFault.TheVariants.{NotACommand, UnknownCommand}
+use Rattle.resp2.specs.Commands.{are_bulk, word, words, alone, sentinel_command, subscribe, command_of_words, redis_command_of_words, redis_command_of}
+use Rattle.resp2.specs.Framing.Frame.{Frame, no_frames, frame, simple, fault, int, bulk, null_bulk, items, null_items}
 use Rattle.resp2.proofs.Switches.{IsSwitch, switch_or_not}
+use Rattle.pubsub.proofs.OwnCommands.{subscribes}
 use Rattle.courteous_sessions.specs.Retelling.{first_word, is_subscribing}
 
 -- PING, or a subcommand of SENTINEL
 abbrev IsOwn : List ℕ → Type 0
 IsOwn name = (lower name ≡ codes "ping") ⊎ (lower name ≡ codes "sentinel")
-
-subscribes : (args : List (List ℕ)) (command : Command) → subscribe args ≡ Ok command → command ≡ Subscribe
-subscribes [] command h = absurd (let no : ⊥ = cc in no)
-subscribes (word ∷ []) command h = at (bytes_eq word channel) h where
-  at : (b : Bool) → (if b then Ok Subscribe else Err UnknownChannel) ≡ Ok command → command ≡ Subscribe
-  at true e = cc
-  at false e = absurd (let no : ⊥ = cc in no)
-subscribes (word ∷ other_word ∷ more) command h = absurd (let no : ⊥ = cc in no)
 
 own_at : (p s u : Bool) (name : List ℕ) (args : List (List ℕ)) (command : Command) → bytes_eq (lower name) (codes "ping") ≡ p
     → bytes_eq (lower name) (codes "sentinel") ≡ s → command ≢ Subscribe

@@ -4,21 +4,19 @@ use Rattle.std.specs.Option.{is_some}
 use Rattle.std.specs.Prelude.{is_err}
 use Rattle.ballot_law.specs.declared.commands.Command.{Command}
 use Rattle.ballot_law.specs.declared.commands.Command.TheVariants.{Ping, IsMasterDownByAddr, GetMasterAddrByName, Masters, Master, Replicas, Sentinels, MyId, CkQuorum, Failover, FlushConfig, Subscribe}
-use Rattle.pubsub.specs.declared.answers.Turn.{Turn}
-use Rattle.pubsub.specs.declared.answers.Turn.TheVariants.{Other as Untouched, Said as Turned}
-use Rattle.pubsub.specs.Answering.{Answer as ChannelAnswer, other, said as confirmed, answer as channel_answer, turn_of, text_of as text_of_turn, listening_after}
+use Rattle.pubsub.specs.declared.answers.Turn.TheVariants.{Other as Untouched}
+use Rattle.pubsub.specs.Answering.{Answer as ChannelAnswer, other, said as confirmed, answer as channel_answer, turn_of, listening_after}
 use Rattle.pubsub.specs.Listening.{Listening}
 use Rattle.pubsub.proofs.OwnCommands.{subscribe_is_said}
 use Rattle.client_commands.specs.Attendants.{Attendance}
 use Rattle.client_commands.specs.declared.protocols.Protocol.{Protocol}
-use Rattle.client_commands.specs.declared.protocols.Protocol.TheVariants.{Two, Three}
+use Rattle.client_commands.specs.declared.protocols.Protocol.TheVariants.{Two}
 use Rattle.client_commands.proofs.Strangers.{strangers_are_answered}
-use Rattle.client_commands.specs.Courtesies.{is_stranger, ClientInfo, Answer, left, said, asks_masters, silent, courtesy, asker_after, kind_of, text_of}
-use Rattle.client_commands.specs.declared.courtesies.Courtesy.TheVariants.{Left, Said, AsksMasters}
+use Rattle.client_commands.specs.Courtesies.{is_stranger, ClientInfo, Answer, left, said, asks_masters, silent, courtesy, asker_after, kind_of}
+use Rattle.client_commands.specs.declared.courtesies.Courtesy.TheVariants.{Said}
 use Rattle.client_commands.specs.Lines.{value_at, Answers as Reads}
 use Rattle.client_commands.proofs.LineStreams.{reads_next}
 use Rattle.sentinel_core.specs.declared.serving.fault.ServeFault.{ServeFault}
-use Rattle.sentinel_core.specs.declared.serving.fault.ServeFault.TheVariants.{Halted, NoMemory as OutOfMemory}
 use Rattle.sentinel_core.specs.Serving.Serving.{last_line}
 use Rattle.port_sessions.specs.Talks.{Talk, Party, party, Responds, RespondsAt}
 use Rattle.resp2.specs.declared.command.CommandFault.{CommandFault}
@@ -31,8 +29,8 @@ use Rattle.resp2.specs.Framing.Stream.{Held, reading, ended, bytes_in, Feeds}
 use Rattle.sentinel_cell.specs.declared.view.View.{View}
 use Rattle.sentinel_cell.specs.Histories.{World}
 use Rattle.courteous_sessions.specs.Epochs.{heard_as}
-use Rattle.courteous_sessions.specs.Visits.{Guest, guest, hears_switches, turn_in, channel_turn, is_confined, confined, told_after, TellsInfo, Answers, Serves, ServesBy, ServesBesideBy, ServesBeside, ServesIn, Tells, ServesAll, IsAnswered, IsRefused, IsCut, Breaks, Receives}
-use Rattle.courteous_sessions.specs.OnTheWay.{AnswersBeside, IsIdle, IsReady, IsTuned, IsOnTheWay, IsDone, Steps, Drains, Refuses, guest_of}
+use Rattle.courteous_sessions.specs.Visits.{Guest, guest, turn_in, channel_turn, is_confined, confined, Answers, Serves, ServesBy, ServesBesideBy, ServesBeside, ServesIn, Tells, ServesAll, IsAnswered, IsRefused, IsCut, Breaks, Receives}
+use Rattle.courteous_sessions.specs.OnTheWay.{AnswersBeside, IsIdle, IsReady, IsOnTheWay, IsDone, Steps, Drains, Refuses, guest_of}
 
 -- ---- what the reading of a value and an attendant's turn say
 
@@ -40,29 +38,6 @@ pub was_read : {V : Type 0} (view : V → Frame) (held : Held) (value : V) (afte
     → (rest : List ℕ) × (value_at (bytes_in held) ≡ Ok (view value, rest)) × (after ≡ reading rest)
 was_read view (reading bytes) value after is h = h
 was_read view (ended fault) value after is h = absurd (let no : ⊥ = cc in no)
-
-module _ (start : World) (now : ℕ) where
-  pub left_answered : (asker : ClientInfo) (answer : Answer) (p : Party) (value : Frame) (bytes : List ℕ) (q : Party) → Left ≡ kind_of answer
-      → Responds start now p (heard_as asker.current (redis_command_of value)) bytes q
-      → Answers start now asker answer p value bytes q
-  left_answered asker left p value bytes q is h = h
-  left_answered asker (said answer) p value bytes q is h = absurd (let no : ⊥ = cc in no)
-  left_answered asker silent p value bytes q is h = absurd (let no : ⊥ = cc in no)
-  left_answered asker asks_masters p value bytes q is h = absurd (let no : ⊥ = cc in no)
-
-  pub said_answered : (asker : ClientInfo) (answer : Answer) (p : Party) (value : Frame) (bytes : List ℕ) → Said ≡ kind_of answer → bytes ≡ text_of answer
-      → Answers start now asker answer p value bytes p
-  said_answered asker left p value bytes is text = absurd (let no : ⊥ = cc in no)
-  said_answered asker (said answer) p value bytes is text = (text, refl)
-  said_answered asker silent p value bytes is text = (text, refl)
-  said_answered asker asks_masters p value bytes is text = absurd (let no : ⊥ = cc in no)
-
-  pub asked_answered : (asker : ClientInfo) (answer : Answer) (p : Party) (value : Frame) (bytes : List ℕ) (q : Party) → AsksMasters ≡ kind_of answer → TellsInfo start now asker.port.figures p value bytes q
-      → Answers start now asker answer p value bytes q
-  asked_answered asker left p value bytes q is h = absurd (let no : ⊥ = cc in no)
-  asked_answered asker (said answer) p value bytes q is h = absurd (let no : ⊥ = cc in no)
-  asked_answered asker silent p value bytes q is h = absurd (let no : ⊥ = cc in no)
-  asked_answered asker asks_masters p value bytes q is h = h
 
 asker_is : (attended : Attendance) (l : Listening) (talk : Talk) (v : View) → attended.asker.listens ≡ is_confined attended.asker.protocol l
     → attended.asker ≡ (guest_of attended l talk v).asker
@@ -290,72 +265,6 @@ module _ (start : World) (now : ℕ) where
             (subst (λ (x : ClientInfo). Answers start now x becomes (party v None) value got.answer (party w got.listens)) is got.answers);
       }
 
-  -- Pub/Sub answered a value
-  pub served_by_channels : (before after : Attendance) (l later_l : Listening) (talk later : Talk) (v w : View) (value : Frame) (more : List ℕ) (t : ChannelAnswer)
-      → IsReady before l talk → channel_turn before.asker l value ≡ t → turn_of t ≡ Turned → later_l ≡ listening_after l t → more ≡ text_of_turn t
-      → IsTuned start now (hears_switches later_l) talk v later w → after.asker ≡ record before.asker { listens = is_confined before.asker.protocol later_l }
-      → Serves start now (guest_of before l talk v) value more (guest_of after later_l later w)
-  served_by_channels before after l later_l talk later v w value more other ready turn is now_l text tuned asker = absurd (let no : ⊥ = cc in no)
-  served_by_channels before after l later_l talk later v w value more (confirmed answers m) ready turn is now_l text tuned asker =
-      let q = party w later.listens in
-      let at = λ (x : ClientInfo). let g : Guest = record { party = party v talk.listens; asker = x; listening = l; told = talk.told } in g in
-      let h = guest_of after later_l later w in
-      let known : h ≡ guest q later_l (told_after (hears_switches later_l) talk.told) before.asker =
-      ap (λ (t : List (Option ℕ)). guest q later_l t after.asker) tuned.told
-      ∙ ap (λ (x : ClientInfo). guest q later_l (told_after (hears_switches later_l) talk.told) x) asker
-      in
-      let by : ServesBy start now (confirmed answers later_l) (at before.asker) value more h = (q, tuned.tunes, text, known) in
-      let there : ServesBy start now (confirmed answers m) (at before.asker) value more h =
-      subst (λ (x : Listening). ServesBy start now (confirmed answers x) (at before.asker) value more h) now_l by
-      in
-      let here : ServesBy start now (channel_turn before.asker l value) (at before.asker) value more h =
-      subst (λ (t : ChannelAnswer). ServesBy start now t (at before.asker) value more h) (sym turn) there
-      in
-      subst (λ (x : ClientInfo). ServesBy start now (channel_turn x l value) (at x) value more h) (asker_is before l talk v ready.listens) here
-
-  pub ready_by_channels : (before after : Attendance) (l later_l : Listening) (talk later : Talk) (v w : View) → IsReady before l talk
-      → IsTuned start now (hears_switches later_l) talk v later w → after.asker ≡ record before.asker { listens = is_confined before.asker.protocol later_l }
-      → after.held ≡ before.held
-      → IsReady after later_l later
-  ready_by_channels before after l later_l talk later v w ready tuned asker held =
-      record {
-        reads = held ∙ ready.reads ∙ ap (λ (h : Held). reading (bytes_in h)) (sym held);
-        idle = tuned.idle;
-        listens = ap (λ (x : ClientInfo). x.listens) asker ∙ sym (ap (λ (x : ClientInfo). is_confined x.protocol later_l) asker);
-        hears = tuned.listens;
-      }
-
-  pub answered_by_channels : (before after : Attendance) (l now_l later_l : Listening) (talk later : Talk) (v w : View) (value : Frame) (unsent given text : List ℕ)
-      (turn : Turn) → IsReady before l talk → turn ≡ Turned → turn ≡ turn_of (channel_turn before.asker l value) → now_l ≡ listening_after l (channel_turn before.asker l value)
-      → text ≡ text_of_turn (channel_turn before.asker l value) → IsTuned start now (hears_switches now_l) talk v later w
-      → after ≡ record before { asker = record before.asker { listens = is_confined before.asker.protocol now_l } } → later_l ≡ now_l → given ≡ unsent ++ text
-      → (more : List ℕ) × (given ≡ unsent ++ more) × IsReady after later_l later
-      × Serves start now (guest_of before l talk v) value more (guest_of after later_l later w)
-  answered_by_channels before after l now_l later_l talk later v w value unsent given text turn ready is_said is now_is text_is tuned is_after same out =
-      let t = channel_turn before.asker l value in
-      let asker = ap (λ (a : Attendance). a.asker) is_after in
-      let is_ready = ready_by_channels before after l now_l talk later v w ready tuned asker (ap (λ (a : Attendance). a.held) is_after) in
-      let serves = served_by_channels before after l now_l talk later v w value text t ready refl (sym is ∙ is_said) now_is text_is tuned asker in (
-        text,
-        out,
-        subst (λ (x : Listening). IsReady after x later) (sym same) is_ready,
-        subst (λ (x : Listening). Serves start now (guest_of before l talk v) value text (guest_of after x later w)) (sym same) serves,
-      )
-
-  -- at protocol 3 Pub/Sub answers as at protocol 2
-  confirmed_alike : (t : ChannelAnswer) (g : Guest) (value : Frame) (bytes : List ℕ) (h : Guest) → turn_of t ≡ Turned → ServesBy start now t g value bytes h
-      → ServesBesideBy start now t g value bytes h
-  confirmed_alike other g value bytes h is s = absurd (let no : ⊥ = cc in no)
-  confirmed_alike (confirmed answers m) g value bytes h is s = s
-
-  pub confirmed_in : (protocol : Protocol) (before : Attendance) (l : Listening) (talk : Talk) (v : View) (value : Frame) (bytes : List ℕ) (h : Guest)
-      → IsReady before l talk → Turned ≡ turn_of (channel_turn before.asker l value) → Serves start now (guest_of before l talk v) value bytes h
-      → ServesIn start now protocol (guest_of before l talk v) value bytes h
-  confirmed_in Two before l talk v value bytes h ready is s = s
-  confirmed_in Three before l talk v value bytes h ready is s =
-      confirmed_alike (channel_turn (confined l before.asker) l value) (guest_of before l talk v) value bytes h
-      (sym (is ∙ ap (λ (x : ClientInfo). turn_of (channel_turn x l value)) (asker_is before l talk v ready.listens))) s
-
 -- ---- where Pub/Sub makes nothing of a value
 
 pub other_turn : (t : ChannelAnswer) → Untouched ≡ turn_of t → t ≡ other
@@ -419,11 +328,6 @@ module _ (start : World) (now : ℕ) where
       → IsCut start now stream g bytes
   cut_here stream g held bytes m a = record { values = a.values; rest = a.rest; parts = a.parts; last = m; answers = a.answers }
 
-  pub cut_by : (stream : List ℕ) (g : Guest) (held : Held) (bytes : List ℕ) (m : Guest) (fault : ServeFault) → IsOnTheWay start now stream g held bytes m
-      → (fault ≡ Halted) ⊎ (fault ≡ OutOfMemory) → Breaks start now stream g fault bytes
-  cut_by stream g held bytes m fault a (inl is) = subst (λ (f : ServeFault). Breaks start now stream g f bytes) (sym is) (cut_here stream g held bytes m a)
-  cut_by stream g held bytes m fault a (inr is) = subst (λ (f : ServeFault). Breaks start now stream g f bytes) (sym is) (cut_here stream g held bytes m a)
-
   faulty : (stream : List ℕ) (g : Guest) (held : Held) (bytes : List ℕ) (m : Guest) (fault : FrameFault) (line : List ℕ) → IsOnTheWay start now stream g held bytes m
       → value_at (bytes_in held) ≡ Err (Faulty fault) → line ≡ last_line → IsRefused start now stream fault g (bytes ++ line)
   faulty stream g held bytes m fault line a shows is =
@@ -461,21 +365,6 @@ module _ (start : World) (now : ℕ) where
       subst (λ (f : ServeFault). Breaks start now stream g f (bytes ++ line)) (sym shows.1)
       (faulty stream g held bytes m fault line a (shows_fault view held fault after is shows.0 given) shows.2)
 
-  -- no whole value is held
-  pub all_served : {V : Type 0} (view : V → Frame) (stream : List ℕ) (g : Guest) (held : Held) (bytes : List ℕ) (m : Guest) (after : Held)
-      → IsOnTheWay start now stream g held bytes m → Reads view held (Ok None) after → IsDone start now stream g after bytes m
-  all_served view stream g (reading rest) bytes m after a given =
-      let now_held : rest ≡ a.rest = ap bytes_in a.held_is in (
-        rest,
-        given.1,
-        record {
-          values = a.values;
-          splits = (a.rest, a.parts, (sym now_held, ap value_at (sym now_held) ∙ given.0));
-          answers = a.answers;
-        },
-      )
-  all_served view stream g (ended fault) bytes m after a given = absurd (let no : ⊥ = let is = a.held_is in cc in no)
-
   -- ---- a whole piece
 
   pub went_on : (stream : List ℕ) (g : Guest) (more : Bool) (held : Held) (bytes : List ℕ) (h : Guest) → more ≡ true → Steps start now stream g (Ok more) held bytes h
@@ -495,10 +384,6 @@ module _ (start : World) (now : ℕ) where
       record { values = []; rest = bytes ++ piece; held_is = fed; parts = refl; answers = (refl, refl) }
   begun (Err f) (reading bytes) after piece g is ok fed = absurd (true≢false ok)
   begun answer (ended f) after piece g is ok fed = absurd (let no : ⊥ = cc in no)
-
-  -- nothing was answered
-  pub cut_at_first : (stream : List ℕ) (g : Guest) → Breaks start now stream g OutOfMemory []
-  cut_at_first stream g = record { values = []; rest = stream; parts = refl; last = g; answers = (refl, refl) }
 
   pub was_received : {X : Type 0} (answer : Result X ServeFault) (stream : List ℕ) (g : Guest) (held : Held) (bytes : List ℕ) (h : Guest)
       → Drains start now stream g answer held bytes h → Receives start now stream g answer (bytes_in held) bytes h

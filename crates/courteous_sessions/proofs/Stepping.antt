@@ -18,8 +18,7 @@ use Rattle.resp2.specs.Commands.{command_of}
 use Rattle.resp2.proofs.Switches.{known_too}
 use Rattle.sentinel_core.specs.declared.serving.fault.ServeFault.{ServeFault}
 use Rattle.sentinel_core.specs.declared.serving.fault.ServeFault.TheVariants.{Halted, NoMemory as OutOfMemory}
-use Rattle.port_sessions.specs.Notes.{none_told}
-use Rattle.port_sessions.specs.Talks.{Talk, Party, party, Responds, RespondsAt}
+use Rattle.port_sessions.specs.Talks.{Talk, Party, party, Responds}
 use Rattle.ballot_law.specs.declared.commands.Command.{Command}
 use Rattle.ballot_law.specs.declared.commands.Command.TheVariants.{Masters, Subscribe}
 use Rattle.resp2.specs.declared.command.CommandFault.{CommandFault}
@@ -31,15 +30,15 @@ use Rattle.client_commands.proofs.LineStreams.{value_is_frame}
 use Rattle.sentinel_cell.specs.declared.view.View.{View}
 use Rattle.sentinel_cell.specs.Histories.{World}
 use Rattle.courteous_sessions.specs.Epochs.{heard_as}
-use Rattle.courteous_sessions.specs.Visits.{Guest, guest, switches, hears_switches, is_confined, confined, masters_of, introduced, TellsInfo, BeginsNotes, Serves, ServesIn, Tells, Breaks, Receives}
+use Rattle.courteous_sessions.specs.Visits.{Guest, guest, switches, hears_switches, confined, masters_of, introduced, TellsInfo, Serves, ServesIn, Tells, Receives}
 use Rattle.courteous_sessions.specs.declared.shapes.Shape.{Shape}
 use Rattle.courteous_sessions.specs.declared.shapes.Shape.TheVariants.{Plain}
 use Rattle.courteous_sessions.specs.Retelling.{shape_of, IsTold, JoinsTold}
 use Rattle.client_commands.specs.declared.protocols.Protocol.{Protocol}
 use Rattle.client_commands.specs.declared.protocols.Protocol.TheVariants.{Two, Three}
-use Rattle.courteous_sessions.specs.OnTheWay.{IsIdle, IsReady, IsTuned, RespondsIn, BeginsWith, IsOnTheWay, IsDone, Drains, Refuses, guest_of}
+use Rattle.courteous_sessions.specs.OnTheWay.{IsIdle, IsReady, RespondsIn, BeginsWith, IsOnTheWay, Drains, guest_of}
 use Rattle.courteous_sessions.proofs.Keeping.{common_differs, common_shape, common_turn, common_answers}
-use Rattle.courteous_sessions.proofs.Serving.{was_read, responds_alike, heard_otherwise, ready_same, served_by_others, served_unheard, value_served, all_served, refused, cut_by, begun, was_received}
+use Rattle.courteous_sessions.proofs.Serving.{was_read, responds_alike, heard_otherwise, ready_same, served_by_others, served_unheard, value_served, begun, was_received}
 
 pub on_ok : {X E A B : Type 0} (answer : Result X E) → (A → B) → OnOk answer A → OnOk answer B
 on_ok (Ok x) f h = f h
@@ -56,40 +55,6 @@ pub introduced_now : (start : World) (knows : Bool) (before after : Attendance) 
 introduced_now start true before after masters is same told = absurd (true≢false is)
 introduced_now start false before after masters is same told =
     told ∙ ap (λ (ms : List MonitoredMaster). let a : Attendance = record before { asker = record before.asker { masters = ms } } in a) same
-
--- where no whole value is held, nothing changes
-reads_none : {V : Type 0} (view : V → Frame) (held after : Held) → held ≡ reading (bytes_in held) → Reads view held (Ok None) after → after ≡ held
-reads_none view (reading bytes) after is h = h.1
-reads_none view (ended fault) after is h = absurd (let no : ⊥ = cc in no)
-
--- what is held stays a stream that is read
-still_reads : (before after : Held) → before ≡ reading (bytes_in before) → after ≡ before → after ≡ reading (bytes_in after)
-still_reads before after reads same = same ∙ reads ∙ ap (λ (h : Held). reading (bytes_in h)) (sym same)
-
-now_reads : (rest : List ℕ) (after : Held) → after ≡ reading rest → after ≡ reading (bytes_in after)
-now_reads rest after is = is ∙ ap (λ (h : Held). reading (bytes_in h)) (sym is)
-
-pub still_ready : {V : Type 0} (view : V → Frame) (before after : Attendance) (l : Listening) (talk : Talk) → IsReady before l talk → Reads view before.held (Ok None) after.held
-    → after.asker ≡ before.asker → IsReady after l talk
-still_ready view before after l talk ready given asker =
-    record {
-      reads = still_reads before.held after.held ready.reads (reads_none view before.held after.held ready.reads given);
-      idle = ready.idle;
-      listens = ap (λ (a : ClientInfo). a.listens) asker ∙ (ready.listens ∙ ap (λ (a : ClientInfo). is_confined a.protocol l) (sym asker));
-      hears = ready.hears;
-    }
-
--- a value was read
-pub ready_to_answer : {V : Type 0} (view : V → Frame) (value : V) (before after : Attendance) (l : Listening) (talk : Talk) → IsReady before l talk
-    → Reads view before.held (Ok (Some value)) after.held → after.asker ≡ before.asker → IsReady after l talk
-ready_to_answer view value before after l talk ready given asker =
-    let at = was_read view before.held value after.held ready.reads given in
-    record {
-      reads = now_reads at.0 after.held at.2;
-      idle = ready.idle;
-      listens = ap (λ (a : ClientInfo). a.listens) asker ∙ (ready.listens ∙ ap (λ (a : ClientInfo). is_confined a.protocol l) (sym asker));
-      hears = ready.hears;
-    }
 
 -- a value that was read is one that a stream may have
 pub read_frame : {V : Type 0} (view : V → Frame) (value : V) (held after : Held) → held ≡ reading (bytes_in held) → Reads view held (Ok (Some value)) after → IsFrame (view value)
@@ -312,32 +277,6 @@ module _ (start : World) (now : ℕ) where
         value_served start now stream g before.held bytes (guest_of before l talk v) value taken.rest after.held got.0 (guest_of after later_l later w) a found taken.left there,
       )
 
-  -- there is no whole value
-  pub step_ended : {V : Type 0} (view : V → Frame) (stream first bytes : List ℕ) (g : Guest) (before after : Attendance) (l : Listening) (unsent : List ℕ) (talk : Talk) (v : View)
-      → unsent ≡ first ++ bytes → IsOnTheWay start now stream g before.held bytes (guest_of before l talk v) → Reads view before.held (Ok None) after.held
-      → after.asker ≡ before.asker → (more : List ℕ) × (unsent ≡ first ++ more) × IsDone start now stream g after.held more (guest_of after l talk v)
-  step_ended view stream first bytes g before after l unsent talk v is a given asker =
-      let done = all_served start now view stream g before.held bytes (guest_of before l talk v) after.held a given in
-      (bytes, is, subst (λ (x : ClientInfo). IsDone start now stream g after.held bytes (guest (party v talk.listens) l talk.told x)) (sym asker) done)
-
-  -- the bytes are no value, or memory was refused
-  pub step_refused : {V : Type 0} (view : V → Frame) (stream first bytes : List ℕ) (g : Guest) (before after : Attendance) (l : Listening) (unsent left : List ℕ) (talk : Talk)
-      (v : View) (fault : FrameFault) (why : ServeFault) → unsent ≡ first ++ bytes → IsOnTheWay start now stream g before.held bytes (guest_of before l talk v)
-      → IsReady before l talk → Reads view before.held (Err fault) after.held → (line : List ℕ) × (left ≡ unsent ++ line) × Refuses fault line why
-      → (more : List ℕ) × (left ≡ first ++ more) × Breaks start now stream g why more
-  step_refused view stream first bytes g before after l unsent left talk v fault why is a ready given out = (
-    bytes ++ out.0,
-    out.1 ∙ ap (λ (t : List ℕ). t ++ out.0) is ∙ append_assoc first bytes out.0,
-    refused start now view stream g before.held bytes (guest_of before l talk v) fault after.held out.0 why a ready.reads given out.2,
-  )
-
-  -- a value has no answer
-  pub step_cut : (stream first bytes : List ℕ) (g : Guest) (before : Attendance) (l : Listening) (unsent left : List ℕ) (talk : Talk) (v : View) (why : ServeFault)
-      → unsent ≡ first ++ bytes → IsOnTheWay start now stream g before.held bytes (guest_of before l talk v) → left ≡ unsent → (why ≡ Halted) ⊎ (why ≡ OutOfMemory)
-      → (more : List ℕ) × (left ≡ first ++ more) × Breaks start now stream g why more
-  step_cut stream first bytes g before l unsent left talk v why is a same fault =
-      (bytes, same ∙ is, cut_by start now stream g before.held bytes (guest_of before l talk v) why a fault)
-
   -- INFO was asked, and SENTINEL MASTERS answered
   pub info_told : (figures : Figures) (value : Frame) (p q : Party) (answer text : List ℕ) → Responds start now p (Ok Masters) answer q
       → (masters : Frame) × BeginsWith answer masters × (text ≡ spelling (info figures value masters)) → TellsInfo start now figures p value text q
@@ -355,72 +294,7 @@ module _ (start : World) (now : ℕ) where
       let answer = subst (λ (x : Option ℕ). Responds start now p (Ok Masters) asked.unsent (party w x)) since turned.0 in
       (text, is_out, idle_again asked left is_left turned.1 goes_on, info_told figures value p (party w left.listens) asked.unsent text answer told)
 
-  -- it answered a value, and its answer was taken away as it is
-  pub handed_on : (command : Result Command CommandFault) (talk asked left : Talk) (v w : View) (unsent out : List ℕ)
-      → Responds start now (party v talk.listens) command asked.unsent (party w asked.listens) × (asked.held ≡ []) → asked.ended ≡ None
-      → left ≡ record asked { unsent = [] } → out ≡ unsent ++ asked.unsent
-      → (more : List ℕ) × (out ≡ unsent ++ more) × IsIdle left × Responds start now (party v talk.listens) command more (party w left.listens)
-  handed_on command talk asked left v w unsent out turned goes_on is_left is_out =
-      let p = party v talk.listens in
-      let since : asked.listens ≡ left.listens = sym (ap (λ (t : Talk). t.listens) is_left) in (
-        asked.unsent,
-        is_out,
-        idle_again asked left is_left turned.1 goes_on,
-        subst (λ (x : Option ℕ). Responds start now p command asked.unsent (party w x)) since turned.0,
-      )
-
   -- ---- to what the session below listens
-
-  begins_none : (p q : Party) → p.listens ≡ None → (confirmation : List ℕ) × Responds start now p (Ok Subscribe) confirmation q → BeginsNotes start now p.listens p q
-  begins_none p q none h = subst (λ (x : Option ℕ). BeginsNotes start now x p q) (sym none) h
-
-  listens_then : (p q : Party) (confirmation : List ℕ) → p.listens ≡ None → Responds start now p (Ok Subscribe) confirmation q → is_some q.listens ≡ true
-  listens_then p q confirmation none h =
-      let here = subst (λ (x : Option ℕ). RespondsAt start now x p.view (Ok Subscribe) confirmation q) none h in
-      ap (λ (x : Option ℕ). is_some x) here.1
-
-  none_of : (since : Option ℕ) → is_some since ≡ false → since ≡ None
-  none_of None h = refl
-  none_of (Some entry) h = absurd (true≢false h)
-
-  -- it was asked SUBSCRIBE
-  pub tuned_in : (talk asked left : Talk) (v w : View) → is_some talk.listens ≡ false
-      → Responds start now (party v talk.listens) (Ok Subscribe) asked.unsent (party w asked.listens) × (asked.held ≡ []) → asked.ended ≡ None → asked.told ≡ talk.told
-      → left ≡ record asked { unsent = [] } → IsTuned start now true talk v left w
-  tuned_in talk asked left v w quiet turned goes_on told is_left =
-      let p = party v talk.listens in
-      let none = none_of talk.listens quiet in
-      let since : asked.listens ≡ left.listens = sym (ap (λ (t : Talk). t.listens) is_left) in
-      let answer = subst (λ (x : Option ℕ). Responds start now p (Ok Subscribe) asked.unsent (party w x)) since turned.0 in
-      record {
-        idle = idle_again asked left is_left turned.1 goes_on;
-        listens = listens_then p (party w left.listens) asked.unsent none answer;
-        tunes = begins_none p (party w left.listens) none (asked.unsent, answer);
-        told = ap (λ (t : Talk). t.told) is_left ∙ told;
-      }
-
-  begins_some : (since : Option ℕ) (p : Party) → is_some since ≡ true → BeginsNotes start now since p p
-  begins_some None p h = absurd (true≢false (sym h))
-  begins_some (Some entry) p h = refl
-
-  -- it listened to notes before
-  pub tuned_before : (talk : Talk) (v : View) → IsIdle talk → is_some talk.listens ≡ true → IsTuned start now true talk v talk v
-  tuned_before talk v idle listens = record { idle = idle; listens = listens; tunes = begins_some talk.listens (party v talk.listens) listens; told = refl }
-
-  -- it is a new one
-  pub tuned_out : (talk left : Talk) (v : View) → left ≡ record { held = []; unsent = []; ended = None; listens = None; told = none_told } → IsTuned start now false talk v left v
-  tuned_out talk left v is =
-      record {
-        idle =
-            record {
-              none_held = ap (λ (t : Talk). t.held) is;
-              none_unsent = ap (λ (t : Talk). t.unsent) is;
-              goes_on = ap (λ (t : Talk). t.ended) is;
-            };
-        listens = ap (λ (t : Talk). is_some t.listens) is;
-        tunes = ap (λ (t : Talk). party v t.listens) is;
-        told = ap (λ (t : Talk). t.told) is;
-      }
 
   -- a piece was added, and all whole values were answered
   pub piece_received : {X Y : Type 0} (fed : Result X FrameFault) (answer : Result Y ServeFault) (before known begins after : Attendance) (l same_l later_l : Listening)

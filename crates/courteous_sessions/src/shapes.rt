@@ -4,10 +4,10 @@ ghost use Rattle.std.specs.Prelude.{◌≡◌};
 ghost use Rattle.pubsub.specs.Answering.{is_called};
 ghost use Rattle.resp2.specs.Framing.Frame.{view, frames_view};
 ghost use Rattle.courteous_sessions.specs.Retelling.{shape_of_command, shape_of_sentinel, shape_of_client, shape_of_docs, shape_of_words, items_of, first_of, second_of, first_word, second_word, shape_of_asked, shape_of, is_subscribing};
-ghost use Rattle.resp2.specs.Commands.{word, redis_command_of};
+ghost use Rattle.resp2.specs.Commands.{redis_command_of};
 
 use ballot_law::Command;
-use resp2::{Value, redis_command_of};
+use resp2::{Value, redis_command_of, word_of};
 
 /// As what protocol 3 tells an answer of protocol 2.
 #[derive(Clone, Copy)]
@@ -111,16 +111,6 @@ fn items_of(value: &Value) -> &[Value]
 {
     match value {
         Value::Items(items) => items.as_slice(),
-        _ => &[],
-    }
-}
-
-/// The bytes of a bulk string, and none of any other value.
-fn word_of(value: &Value) -> &[u8]
-    ensures { result.now ≡ word (view value.now) }
-{
-    match value {
-        Value::Bulk(bytes) => bytes.as_slice(),
         _ => &[],
     }
 }

@@ -1,59 +1,15 @@
 //! The command at the front of the bytes of a client.
 
 ghost use Rattle.std.specs.Prelude.{◌≡◌, ◌≤◌, ◌++◌, [], length, option_map, IfOk, OnOk};
-ghost use Rattle.resp2.specs.Commands as commands;
-ghost use Rattle.resp2.specs.Framing.Frame.{view, frames_view};
+ghost use Rattle.resp2.specs.Framing.Frame.{view};
 ghost use Rattle.data_node_port.specs.Readings.{words_of, before_end, is_blank, with_word, inline_words};
 
 use ballot_law::{NoMemory, Text};
-use resp2::Value;
+use resp2::{Value, are_bulk, words_of_items};
 use std::alloc::Global;
 
 /// How many bytes a command may have.
 pub const COMMAND_MAX: usize = 65_536;
-
-/// Whether the items are bulk strings.
-fn are_bulk(items: &[Value]) -> bool
-    ensures { result ≡ commands.are_bulk (frames_view items.now) }
-{
-    let mut rest = items;
-    while let [value, more @ ..] = rest {
-        if !is_bulk(value) {
-            return false;
-        }
-        rest = more;
-    }
-    true
-}
-
-fn is_bulk(value: &Value) -> bool
-    ensures { result ≡ commands.is_bulk (view value.now) }
-{
-    matches!(value, Value::Bulk(_))
-}
-
-/// The bytes of a bulk string, and none of any other value.
-fn word_of(value: &Value) -> &[u8]
-    ensures { result.now ≡ commands.word (view value.now) }
-{
-    match value {
-        Value::Bulk(bytes) => bytes.as_slice(),
-        _ => &[],
-    }
-}
-
-/// The words that the items of an array are.
-fn words_of_items(alloc: Global, items: &[Value]) -> Result<Vec<Text>, NoMemory>
-    ensures { IfOk result (λ words. words.items ≡ commands.words (frames_view items.now)) }
-{
-    let mut words = Vec::new(alloc);
-    let mut rest = items;
-    while let [value, more @ ..] = rest {
-        words.push(Text::from_slice(alloc, word_of(value))?)?;
-        rest = more;
-    }
-    Ok(words)
-}
 
 /// The words of the command that a value is: an array of bulk strings. `None` for any other value.
 pub(crate) fn words_of(alloc: Global, value: &Value) -> Result<Option<Vec<Text>>, NoMemory>

@@ -1,34 +1,20 @@
 -- The answer to a question is read again.
-use Rattle.std.proofs.Common.{◌≡◌, ℕ, ◌≤◌, Bool, true, false, cond, List, length, refl, ap, sym, ◌∙◌, arith, Option, Some, None, Ok, nat_le, pos}
-use Rattle.std.specs.Prelude.{bytes_eq, codes}
+use Rattle.std.proofs.Common.{◌≡◌, ℕ, ◌≤◌, Bool, true, false, length, refl, ap, sym, ◌∙◌, arith, Option, Some, None, Ok, nat_le, pos}
 use Rattle.std.proofs.lemmas.Bool.{le-leb}
-use Rattle.std.proofs.lemmas.Slice.Eq.{bytes_eq-Decides}
 use Rattle.ballot_law.specs.declared.addresses.Addr.{Addr}
 use Rattle.ballot_law.specs.declared.addresses.RunId.{RunId}
 use Rattle.ballot_law.specs.declared.cards.TheConstants.{MAX_EPOCH}
 use Rattle.ballot_law.specs.declared.events.Event.{Event}
 use Rattle.ballot_law.specs.declared.events.Event.TheVariants.{Answered}
 use Rattle.ballot_law.specs.declared.messages.NodeName.{NodeName}
-use Rattle.ballot_law.specs.Words.{some_if, then_some, id_text, run_id}
-use Rattle.ballot_law.proofs.WordLemmas.{run_id-id_text, length-id_text}
+use Rattle.ballot_law.specs.Words.{some_if, then_some}
+use Rattle.ballot_law.proofs.WordLemmas.{length-id_text}
 use Rattle.node_texts.specs.Messages.MessageTexts.{answer_frame, down_number}
 use Rattle.resp2.specs.Commands.{candidate, candidate_text, IsCandidate}
 use Rattle.resp2.specs.Framing.Frame.{IsPlain}
+use Rattle.resp2.proofs.Asks.{candidate_again}
 use Rattle.links.specs.declared.sessions.replies.Vote.{Vote}
 use Rattle.links.specs.Sessions.Links.{vote_of, answered, ask_heard, flag}
-
-no_star : (word : List ℕ) → length word ≡ 40 → bytes_eq word (codes "*") ≡ false
-no_star word len = at (bytes_eq word (codes "*")) refl
-  where
-    at : (v : Bool) → bytes_eq word (codes "*") ≡ v → v ≡ false
-    at true e = let same : word ≡ codes "*" = (bytes_eq-Decides word (codes "*")).0 e in let one : length word ≡ 1 = ap length same in absurd (omega arith)
-    at false e = refl
-
-candidate_again : (c : Option RunId) → IsCandidate c → candidate (candidate_text c) ≡ Some c
-candidate_again None is = refl
-candidate_again (Some id) is =
-    ap (λ (b : Bool). cond b (Some None) (then_some (run_id (id_text id)) (λ i. Some (Some i)))) (no_star (id_text id) (length-id_text id))
-    ∙ ap (λ (o : Option RunId). then_some o (λ i. Some (Some i))) (run_id-id_text id is.hi is.lo)
 
 text_short : (c : Option RunId) → length (candidate_text c) ≤ 40
 text_short None = omega arith

@@ -1,8 +1,6 @@
 -- No line of an answer or a message holds a CR or LF, so what is written of them is as many values.
-use Rattle.std.proofs.Common.{◌≡◌, ◌≢◌, ◌==◌, ◌||◌, not, ℕ, List, [], ◌∷◌, ◌++◌, length, Bool, true, false, Option, None, Some, Result, Err, codes, refl, sym, ap, ◌∙◌, ◌⊎◌, inl, inr, subst, true≢false}
+use Rattle.std.proofs.Common.{◌≡◌, ℕ, List, [], ◌∷◌, ◌++◌, length, Bool, true, false, Option, None, Some, Result, Err, codes, refl, sym, ap, ◌∙◌, ◌⊎◌, inl, inr, subst, true≢false}
 use Rattle.std.specs.Prelude.{if◌then◌else◌}
-use Rattle.std.specs.List.{list_all}
-use Rattle.std.proofs.lemmas.Bool.{and_parts}
 use Rattle.std.proofs.lemmas.Slice.Eq.{bytes_eq-Decides}
 use Rattle.ballot_law.specs.declared.commands.Command.{Command}
 use Rattle.ballot_law.specs.Words.{lower}
@@ -10,6 +8,7 @@ use Rattle.resp2.specs.declared.command.CommandFault.{CommandFault}
 use Rattle.resp2.specs.declared.command.CommandFault.TheVariants.{NotACommand, UnknownCommand}
 use Rattle.resp2.specs.Commands as commands
 use Rattle.resp2.specs.Commands.{Entry, called_in, subcommands, sentinel_command, command_of_words, redis_command_of_words, are_bulk, words}
+use Rattle.resp2.proofs.PlainLines.{checked, joined}
 use Rattle.resp2.proofs.Switches.{IsSwitch, switch_or_not}
 use Rattle.resp2.specs.Framing.Frame.{Frame, FrameList, frame, simple, fault, int, bulk, null_bulk, items, null_items, IsLine, HasLines, HaveLines}
 use Rattle.pubsub.specs.declared.fault.ChannelFault.{ChannelFault}
@@ -25,26 +24,6 @@ use Rattle.pubsub.specs.Telling.{pattern_message, message, told, told_for}
 use Rattle.pubsub.specs.Answering.{Answer, other, said, is_called, verb_of, wrong_arguments, not_while_listening, fault_text, one, names_of, others_of, subscribed, pings, executed, is_own, second, own, known, answer_words, answer}
 
 -- ---- lines
-
-abbrev is_plain_byte : ℕ → Bool
-is_plain_byte b = not ((b == 13) || (b == 10))
-
-plain : (b : ℕ) → is_plain_byte b ≡ true → (b ≢ 13) × (b ≢ 10)
-plain b h = (
-  (λ e. let never : false ≡ true = subst (λ (x : ℕ). is_plain_byte x ≡ true) e h in absurd (cc)),
-  (λ e. let never : false ≡ true = subst (λ (x : ℕ). is_plain_byte x ≡ true) e h in absurd (cc)),
-)
-
--- a text of the program, by a test that computes
-checked : (text : List ℕ) → list_all is_plain_byte text ≡ true → IsLine text
-checked [] h = tt
-checked (b ∷ text) h =
-    let both = and_parts (is_plain_byte b) (list_all is_plain_byte text) h in
-    (plain b both.0, checked text both.1)
-
-joined : (one two : List ℕ) → IsLine one → IsLine two → IsLine (one ++ two)
-joined [] two h k = k
-joined (b ∷ one) two h k = (h.0, joined one two h.1 k)
 
 abbrev allowed : List ℕ
 allowed = codes "': only (P|S)SUBSCRIBE / (P|S)UNSUBSCRIBE / PING / QUIT / RESET are allowed in this context"

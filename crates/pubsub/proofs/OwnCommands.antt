@@ -118,7 +118,7 @@ alone_empty : (c : Command) (args : Words) (command : Command) → alone c args 
 alone_empty c [] command h = refl
 alone_empty c (a ∷ more) command h = absurd (let no : ⊥ = cc in no)
 
-subscribes : (args : Words) (command : Command) → subscribe args ≡ Ok command → command ≡ Subscribe
+pub subscribes : (args : Words) (command : Command) → subscribe args ≡ Ok command → command ≡ Subscribe
 subscribes [] command h = absurd (let no : ⊥ = cc in no)
 subscribes (word ∷ []) command h = at (bytes_eq word channel) h where
   at : (b : Bool) → (if b then Ok Subscribe else Err UnknownChannel) ≡ Ok command → command ≡ Subscribe

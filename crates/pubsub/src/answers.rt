@@ -8,9 +8,9 @@ use crate::fault::ChannelFault;
 use crate::kind::Kind;
 use crate::subscriptions::Subscriptions;
 use crate::verb::{Verb, verb_of};
-use crate::words_in::{are_bulk, is_own, lower_second, words_of};
+use crate::words_in::{is_own, lower_second};
 use ballot_law::{NoMemory, Text};
-use resp2::{OutText, Value, push_bulk, redis_command_of};
+use resp2::{OutText, Value, are_bulk, push_bulk, redis_command_of, words_of_items};
 
 /// What becomes of a value.
 #[derive(Clone, Copy, Debug, PartialEq, Eq)]
@@ -224,7 +224,7 @@ impl Subscriptions {
             return Ok(Turn::Other);
         }
         let is_of_rules = is_own(&redis_command_of(value));
-        let words = words_of(self.alloc(), items.as_slice())?;
+        let words = words_of_items(self.alloc(), items.as_slice())?;
         self.answer_words(is_of_rules, words.as_slice(), out)
     }
 }

@@ -32,7 +32,8 @@ no_star word len = at (bytes_eq word (codes "*")) refl
     at true e = let same : word ≡ codes "*" = (bytes_eq-Decides word (codes "*")).0 e in let one : length word ≡ 1 = ap length same in absurd (omega arith)
     at false e = refl
 
-candidate_again : (c : Option RunId) → IsCandidate c → candidate (candidate_text c) ≡ Some c
+-- the word of a candidate is read as that candidate
+pub candidate_again : (c : Option RunId) → IsCandidate c → candidate (candidate_text c) ≡ Some c
 candidate_again None is = refl
 candidate_again (Some id) is =
     ap (λ (b : Bool). cond b (Some None) (then_some (run_id (id_text id)) (λ i. Some (Some i)))) (no_star (id_text id) (length-id_text id))

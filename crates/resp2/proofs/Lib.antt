@@ -3,6 +3,7 @@ pub mod Counts
 pub mod AskFrames
 pub mod Asks
 pub mod Found
+pub mod PlainLines
 pub mod Streams
 pub mod Switches
 pub mod FramingLemmas

@@ -8,6 +8,7 @@ ghost use Rattle.resp2.specs.Framing.Frame as frames;
 ghost use Rattle.resp2.specs.Framing.Frame.{view, frames_view};
 
 use crate::framing::Value;
+use crate::words::{are_bulk, word_of};
 use ballot_law::{Command, MAX_EPOCH, Name, RunId};
 use thiserror::Error;
 use tokens::{canonical_address_of, canonical_number_of, run_id_of};
@@ -39,33 +40,6 @@ pub enum CommandFault {
     /// `SUBSCRIBE` names another channel than `+switch-master`.
     #[error("UnknownChannel")]
     UnknownChannel,
-}
-
-/// The bytes of a bulk string, and none of any other value.
-fn word_of(value: &Value) -> &[u8]
-    ensures { result.now ≡ commands.word (view value.now) }
-{
-    match value {
-        Value::Bulk(bytes) => bytes.as_slice(),
-        _ => &[],
-    }
-}
-
-fn is_bulk(value: &Value) -> bool
-    ensures { result ≡ commands.is_bulk (view value.now) }
-{
-    matches!(value, Value::Bulk(_))
-}
-
-fn are_bulk(items: &[Value]) -> bool
-    ensures { result ≡ commands.are_bulk (frames_view items.now) }
-{
-    for item in items {
-        if !is_bulk(item) {
-            return false;
-        }
-    }
-    true
 }
 
 /// Whether the word is the name, whatever the case of its letters. Nearly all words come in capitals, which one

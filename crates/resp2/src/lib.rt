@@ -1,6 +1,7 @@
 //! The commands of a Sentinel's port: which a value of the Redis serialization protocol (RESP2) spells.
 //!
 //! `command_of` tells what a value asks of a Sentinel, and `next_command` reads what the next value of a stream asks.
+//! `words_of_items` gives the words of any other command.
 //! The values themselves, their reader and their writer are those of `resp2`, which this crate passes on. The commands
 //! and their faults stand in docs/PROTOCOL.md.
 #![tactic(auto)]
@@ -10,6 +11,7 @@ mod command;
 mod command_stream;
 mod framing;
 mod laws;
+mod words;
 
 pub use command::{CommandFault, command_of, redis_command_of};
 pub use command_stream::{next_command, next_common};
@@ -20,3 +22,4 @@ pub use framing::{
     values_of_pieces, write_value,
 };
 pub use laws::law_ask_is_read_again;
+pub use words::{are_bulk, word_of, words_of_items};

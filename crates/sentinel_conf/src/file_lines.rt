@@ -83,8 +83,8 @@ fn is_twice(earlier: &[StateLine], state: &StateLine) -> bool
     earlier.iter().any(|other| state.has_key_of(other))
 }
 
-/// The fault of a line by itself, after these state lines.
-fn line_fault(earlier: &[StateLine], line: &Line) -> Option<ConfKind>
+/// The fault of a line by itself, after these state lines; `None` where it has none. No memory is taken.
+pub fn line_fault(earlier: &[StateLine], line: &Line) -> Option<ConfKind>
     ensures { result ≡ line_fault earlier.now line.now }
 {
     match line {
@@ -109,8 +109,8 @@ fn is_among(names: &[Name], name: &Name) -> bool
         .any(|other| is_same_bytes(name.as_slice(), other.as_slice()))
 }
 
-/// The fault of a line that speaks of a master that isn't among these.
-fn unknown_fault(names: &[Name], line: &Line) -> Option<ConfKind>
+/// The fault of a line that speaks of a master that isn't among these; `None` of any other line. No memory is taken.
+pub fn unknown_fault(names: &[Name], line: &Line) -> Option<ConfKind>
     ensures { result ≡ unknown_fault names.now line.now }
 {
     match line.master_name() {

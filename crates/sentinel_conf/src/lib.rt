@@ -2,6 +2,7 @@
 //! change of what a Sentinel keeps.
 //!
 //! - `read` gives the `Conf` of a file, or a `ConfFault` with the number of the line.
+//! - `line_fault` and `unknown_fault` judge one line, for a caller who wants all faults.
 //! - `ConfText` has the room of a rewritten file, and `rewrite_into` writes one without memory.
 //!
 //! What one line says stands in `conf_lines`, and where the file is held in `sentinel_conf`; what callers need of both
@@ -28,6 +29,7 @@ mod writing;
 pub use conf::{Conf, read, rewrite_into};
 pub use conf_lines::{ConfFault, ConfKind};
 pub use conf_text::{ConfText, FILE_MAX};
+pub use file_lines::{line_fault, unknown_fault};
 pub use laws::{law_read_again, law_run_ids};
 pub use settings::{DEFAULT_SETTINGS, Settings, law_defaults};
 pub use store::{

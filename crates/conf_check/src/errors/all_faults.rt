@@ -1,10 +1,9 @@
 //! All faults of a file.
 
 ghost use Rattle.std.specs.Prelude.{◌≡◌, ◌∷◌, ◌++◌, [], IfOk, OnOk, map};
-ghost use Rattle.std.specs.List.{filter_map, list_any};
+ghost use Rattle.std.specs.List.{filter_map};
 ghost use Rattle.ballot_law.specs.Cuts.{lines};
-ghost use Rattle.ballot_law.specs.Orders.{same_bytes};
-ghost use Rattle.conf_lines.specs.Lines.{line_of, same_key};
+ghost use Rattle.conf_lines.specs.Lines.{line_of};
 ghost use Rattle.conf_lines.specs.Values.{my_id_of, name_of};
 ghost use Rattle.sentinel_conf.specs.Meaning.{states};
 ghost use Rattle.sentinel_conf.specs.Reading.{line_fault, unknown_fault};
@@ -12,59 +11,11 @@ ghost use Rattle.conf_check.specs.Errors.RefusedNames.{refused_name};
 ghost use Rattle.conf_check.specs.Errors.AllFaults.{at_line, line_faults, unknown_faults, id_faults, faults_in, all_faults};
 
 use crate::errors::refused_names::add_refused_names;
-use ballot_law::{Name, NoMemory, is_same_bytes};
+use ballot_law::{Name, NoMemory};
 use conf_lines::{ConfFault, ConfKind, Line, StateLine, line_of};
-use sentinel_conf::read;
+use sentinel_conf::{line_fault, read, unknown_fault};
 use std::alloc::{AllocError, Global};
 use tokens::split_line;
-
-/// Whether one of these lines forbids this one.
-fn is_twice(earlier: &[StateLine], state: &StateLine) -> bool
-    ensures { result ≡ list_any (same_key state.now) earlier.now }
-{
-    earlier.iter().any(|other| state.has_key_of(other))
-}
-
-/// The fault of a line by itself, after these state lines.
-fn line_fault(earlier: &[StateLine], line: &Line) -> Option<ConfKind>
-    ensures { result ≡ line_fault earlier.now line.now }
-{
-    match line {
-        Line::Faulty(kind) => Some(*kind),
-        Line::State(state) => {
-            if is_twice(earlier, state) {
-                return Some(ConfKind::Twice);
-            }
-            None
-        }
-        Line::Setting(_) => None,
-        Line::Kept => None,
-    }
-}
-
-/// Whether this is one of the names.
-fn is_among(names: &[Name], name: &Name) -> bool
-    ensures { result ≡ list_any (same_bytes name.now) names.now }
-{
-    names
-        .iter()
-        .any(|other| is_same_bytes(name.as_slice(), other.as_slice()))
-}
-
-/// The fault of a line that speaks of a master that isn't among these.
-fn unknown_fault(names: &[Name], line: &Line) -> Option<ConfKind>
-    ensures { result ≡ unknown_fault names.now line.now }
-{
-    match line.master_name() {
-        None => None,
-        Some(name) => {
-            if is_among(names, &name) {
-                return None;
-            }
-            Some(ConfKind::UnknownMaster)
-        }
-    }
-}
 
 /// Adds the fault of the line with this number.
 fn add_at(faults: &mut Vec<ConfFault>, line: u64, found: Option<ConfKind>) -> Result<(), AllocError>

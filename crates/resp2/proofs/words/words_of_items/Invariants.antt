@@ -1,7 +1,7 @@
 use Rattle.std.proofs.Common.{◌≡◌, ◌++◌, length}
 use Rattle.resp2.specs.Commands.{words}
 use Rattle.resp2.specs.Framing.Frame.{frames_view}
-use Rattle.client_commands.proofs.courtesies.words_of_items.Given as goal
+use Rattle.resp2.proofs.words.words_of_items.Given as goal
 
 abbrev pub invariant-loop-rest : goal.invariant-loop-rest
 invariant-loop-rest l = l.words.items ++ words (frames_view l.rest) ≡ words (frames_view l.items)
