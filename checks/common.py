@@ -255,7 +255,7 @@ class Client:
     def answer(self):
         """The bytes of the next value; what came where the stream ended."""
         line = self.reader.readline()
-        if line[:1] in (b"*", b">", b"%"):
+        if line[:1] in (b"*", b">", b"%", b"~"):
             return line + b"".join(self.answer() for _ in range(int(line[1:]) * (2 if line[:1] == b"%" else 1)))
         if line[:1] in (b"$", b"=") and line != b"$-1\r\n":
             return line + self.reader.read(int(line[1:]) + 2)

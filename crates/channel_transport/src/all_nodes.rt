@@ -20,6 +20,7 @@ use sentinel_conf::Conf;
 use sentinel_outbox::Outbox;
 use sentinel_runtime::{RunState, send_all};
 use std::alloc::{AllocError, Global};
+use std::marker::Brand;
 use std::rt::Clock;
 use std::sync::Wait;
 use std::sync::atomic::{AtomicU64, Ordering};
@@ -125,7 +126,8 @@ impl DataNodes {
         self.nodes.len() as u16
     }
 
-    /// Has the node with this number take an event, and sends what it says.
+    /// Has the node with this number take an event, and sends what it says, in no Sentinel's name.
+    #[tactic(auto, using(crate::proofs::Naming::says_all))]
     fn take<R: Wait>(&mut self, rt: &R, links: &Links, number: u16, now: u64, event: Event)
         requires { IsTakeable event }
         ensures { ObeysAt number (Take event) self.old.nodes.items self.new.nodes.items }
@@ -133,7 +135,7 @@ impl DataNodes {
         if let Some(node) = self.nodes.get_mut(number as usize) {
             let input = Input { now, event };
             carry_out(node, &input, &mut self.outbox);
-            send_all(&mut links.outlet(rt), self.outbox.outputs());
+            send_all::<Brand, _>(&mut links.outlet(rt), self.outbox.outputs());
         }
     }
 

@@ -8,7 +8,7 @@ use crate::dispatch::{Dispatch, dispatch_of};
 use crate::node_orders::NodeOrder;
 use ballot_law::Message;
 use crossbeam_channel::{Receiver, Sender, unbounded};
-use sentinel_runtime::Outlet;
+use sentinel_runtime::{Outlet, Which};
 use std::alloc::{AllocError, Global};
 use std::sync::Wait;
 
@@ -90,7 +90,7 @@ pub struct ChannelOutlet<'a, R: Wait> {
     rt: &'a R,
 }
 
-impl<R: Wait> Outlet for ChannelOutlet<'_, R> {
+impl<J: Which, R: Wait> Outlet<J> for ChannelOutlet<'_, R> {
     fn send(&mut self, message: &Message) {
         if let Ok(Some(dispatch)) = dispatch_of(self.links.alloc, message) {
             self.links.dispatch(self.rt, dispatch);

@@ -6,7 +6,7 @@ use Rattle.std.proofs.lemmas.Bool.{and_parts}
 use Rattle.ballot_law.specs.Words.{lower, canonical_within}
 use Rattle.resp2.specs.Framing.Frame.{Frame, simple, fault, bulk, frames_of, IsLine, HasLines, HaveLines}
 use Rattle.client_commands.specs.declared.verbs.Verb.{Verb}
-use Rattle.client_commands.specs.declared.verbs.Verb.TheVariants.{Ping, Hello, Auth, SetName, SetInfo, GetName, Id, OfClients, Own, Kill, NoEvict, Reply, HelpOfClient, Commands, Docs, Count, HelpOfCommand, Role, Publish, Info, Sentinel}
+use Rattle.client_commands.specs.declared.verbs.Verb.TheVariants.{Ping, Hello, Auth, SetName, SetInfo, GetName, Id, OfClients, Own, Kill, NoEvict, Reply, HelpOfClient, Commands, Docs, Count, InfoOfCommands, ListOfCommands, HelpOfCommand, Role, Publish, Info, Sentinel}
 use Rattle.client_commands.specs.declared.subcommands.Sub.{Sub}
 use Rattle.client_commands.specs.declared.subcommands.Sub.TheVariants.{Help, PendingScripts, InfoCache, Config, SetOption, Monitor, Remove, Reset, Simulate, Debug}
 use Rattle.client_commands.specs.declared.hellos.Expects.{Expects}
@@ -18,6 +18,8 @@ use Rattle.client_commands.specs.Courtesies as table
 use Rattle.client_commands.specs.declared.choosing.ClientKind.{ClientKind}
 use Rattle.client_commands.specs.Choosing.{Wanted, Chosen, fits, unfit, anyone, kind_named, no_kind, no_number, with_spared, with_user, with_option, with_options, chosen_by}
 use Rattle.client_commands.specs.Subcommands.{sub_name, all_subs, sub_among, takes_count, not_at_runtime, no_trials, only_get}
+use Rattle.client_commands.proofs.PlainLines.{told_have_lines, names_lines}
+use Rattle.client_commands.proofs.TableLines.{table_lines, docs_lines, info_lines, list_of_lines}
 use Rattle.client_commands.specs.Helps.{sentinel_help, client_help, command_help}
 use Rattle.client_commands.specs.declared.protocols.Protocol.{Protocol}
 use Rattle.client_commands.specs.Protocols.{protocol_asked}
@@ -100,6 +102,8 @@ verb_line HelpOfClient = checked (codes "client|help") refl
 verb_line Commands = checked (codes "command") refl
 verb_line Docs = checked (codes "command|docs") refl
 verb_line Count = checked (codes "command|count") refl
+verb_line InfoOfCommands = checked (codes "command|info") refl
+verb_line ListOfCommands = checked (codes "command|list") refl
 verb_line HelpOfCommand = checked (codes "command|help") refl
 verb_line Role = checked (codes "role") refl
 verb_line Publish = checked (codes "publish") refl
@@ -148,8 +152,10 @@ command_lines [] = tt
 command_lines (word ∷ words) =
     both (is_called (codes "docs") word) _ _ tt
     (both (is_called (codes "count") word) _ _ (taken_lines Count (length words == 0) words)
+    (both (is_called (codes "info") word) _ _ tt
+    (both (is_called (codes "list") word) _ _ tt
     (both (is_called (codes "help") word) _ _ (taken_lines HelpOfCommand (length words == 0) words)
-    (subcommand_line (codes "COMMAND HELP.") word (checked (codes "COMMAND HELP.") refl))))
+    (subcommand_line (codes "COMMAND HELP.") word (checked (codes "COMMAND HELP.") refl))))))
 
 sub_lines : (sub : Option Sub) (word : List ℕ) (words : List (List ℕ)) → AreLines (table.subcommand sub word words)
 sub_lines None word words = subcommand_line (codes "SENTINEL HELP.") word (checked (codes "SENTINEL HELP.") refl)
@@ -277,10 +283,6 @@ get_name_lines : (name : List ℕ) → HasLines (table.get_name name)
 get_name_lines [] = tt
 get_name_lines (b ∷ name) = tt
 
-names_lines : (names : List (List ℕ)) → HaveLines (frames_of (map bulk names))
-names_lines [] = tt
-names_lines (name ∷ names) = (tt, names_lines names)
-
 publish_lines : (words : List (List ℕ)) → HasLines (table.publish words)
 publish_lines words =
     one_of (table.is_hello_channel (first words)) _ _ tt (checked (codes "ERR Only HELLO messages are accepted by Sentinel instances.") refl)
@@ -364,12 +366,6 @@ killed_lines asker by_address (unfit refusal) h = h
 
 -- ---- subcommands of SENTINEL
 
-told_have_lines : (lines : List (List ℕ)) → list_all (λ (line : List ℕ). list_all is_plain_byte line) lines ≡ true → HaveLines (frames_of (map simple lines))
-told_have_lines [] h = tt
-told_have_lines (line ∷ lines) h =
-    let parts = and_parts (list_all is_plain_byte line) (list_all (λ (l : List ℕ). list_all is_plain_byte l) lines) h in
-    (checked line parts.0, told_have_lines lines parts.1)
-
 uncached_lines : (n : ℕ) → HaveLines (table.uncached n)
 uncached_lines zero = tt
 uncached_lines (suc n) = ((tt, (tt, tt)), uncached_lines n)
@@ -432,9 +428,11 @@ executed_lines asker Kill words = killed_lines asker (length words == 1) (chosen
 executed_lines asker NoEvict words = one_of (is_called (codes "on") (first words) || is_called (codes "off") (first words)) _ _ ok_line syntax_line
 executed_lines asker Reply words = one_of (is_called (codes "on") (first words)) _ _ ok_line syntax_line
 executed_lines asker HelpOfClient words = told_have_lines client_help refl
-executed_lines asker Commands words = tt
-executed_lines asker Docs words = tt
+executed_lines asker Commands words = table_lines
+executed_lines asker Docs words = docs_lines words
 executed_lines asker Count words = tt
+executed_lines asker InfoOfCommands words = info_lines words
+executed_lines asker ListOfCommands words = list_of_lines words
 executed_lines asker HelpOfCommand words = told_have_lines command_help refl
 executed_lines asker Role words = (tt, (names_lines (table.names_of asker.masters), tt))
 executed_lines asker Publish words = publish_lines words
@@ -458,6 +456,8 @@ listening_lines HelpOfClient words = listener_line HelpOfClient
 listening_lines Commands words = listener_line Commands
 listening_lines Docs words = listener_line Docs
 listening_lines Count words = listener_line Count
+listening_lines InfoOfCommands words = listener_line InfoOfCommands
+listening_lines ListOfCommands words = listener_line ListOfCommands
 listening_lines HelpOfCommand words = listener_line HelpOfCommand
 listening_lines Role words = listener_line Role
 listening_lines Publish words = listener_line Publish

@@ -10,8 +10,8 @@ one = decimal_digit 1 (omega arith)
 three : decimal 3 ≡ 51 ∷ []
 three = decimal_digit 3 (omega arith)
 
-fifteen : decimal 15 ≡ 49 ∷ 53 ∷ []
-fifteen = decimal_step 15 (omega arith) (omega arith) ∙ (rw (one) refl)
+seventeen : decimal 17 ≡ 49 ∷ 55 ∷ []
+seventeen = decimal_step 17 (omega arith) (omega arith) ∙ (rw (one) refl)
 
 thirty_two : decimal 32 ≡ 51 ∷ 50 ∷ []
 thirty_two = decimal_step 32 (omega arith) (omega arith) ∙ (rw (three) refl)
@@ -95,12 +95,14 @@ pub client_help_bytes : spelling (told_lines client_help) ≡
 client_help_bytes = rw (thirty_three) refl
 
 pub command_help_bytes : spelling (told_lines command_help) ≡
-    codes "*15" ++ (line_end ++ (
+    codes "*17" ++ (line_end ++ (
     codes "+COMMAND <subcommand> [<arg> [value] [opt] ...]. Subcommands are:" ++ (line_end ++ (
     codes "+(no subcommand)" ++ (line_end ++ (
     codes "+    Return details about all Redis commands." ++ (line_end ++ (
     codes "+COUNT" ++ (line_end ++ (
     codes "+    Return the total number of commands in this Redis server." ++ (line_end ++ (
+    codes "+LIST" ++ (line_end ++ (
+    codes "+    Return a list of all commands in this Redis server." ++ (line_end ++ (
     codes "+INFO [<command-name> ...]" ++ (line_end ++ (
     codes "+    Return details about multiple Redis commands." ++ (line_end ++ (
     codes "+    If no command names are given, documentation details for all" ++ (line_end ++ (
@@ -111,5 +113,5 @@ pub command_help_bytes : spelling (told_lines command_help) ≡
     codes "+    commands are returned." ++ (line_end ++ (
     codes "+HELP" ++ (line_end ++ (
     codes "+    Prints this help." ++ (line_end ++ (
-    []))))))))))))))))))))))))))))))))
-command_help_bytes = rw (fifteen) refl
+    []))))))))))))))))))))))))))))))))))))
+command_help_bytes = rw (seventeen) refl

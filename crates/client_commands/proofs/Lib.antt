@@ -8,7 +8,10 @@ pub mod LineStreams
 pub mod Lookups
 pub mod OwnValues
 pub mod Parts
+pub mod PlainLines
 pub mod Silence
 pub mod Strangers
 pub mod SubBytes
 pub mod SubNames
+pub mod TableBytes
+pub mod TableLines

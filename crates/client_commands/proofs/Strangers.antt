@@ -6,7 +6,7 @@ use Rattle.std.proofs.lemmas.Bool.{and_parts}
 use Rattle.resp2.specs.Commands.{redis_command_of}
 use Rattle.resp2.specs.Framing.Frame.{Frame}
 use Rattle.client_commands.specs.declared.verbs.Verb.{Verb}
-use Rattle.client_commands.specs.declared.verbs.Verb.TheVariants.{Ping, Hello, Auth, SetName, SetInfo, GetName, Id, OfClients, Own, Kill, NoEvict, Reply, HelpOfClient, Commands, Docs, Count, HelpOfCommand, Role, Publish, Info, Sentinel}
+use Rattle.client_commands.specs.declared.verbs.Verb.TheVariants.{Ping, Hello, Auth, SetName, SetInfo, GetName, Id, OfClients, Own, Kill, NoEvict, Reply, HelpOfClient, Commands, Docs, Count, InfoOfCommands, ListOfCommands, HelpOfCommand, Role, Publish, Info, Sentinel}
 use Rattle.client_commands.specs.declared.subcommands.Sub.{Sub}
 use Rattle.client_commands.specs.declared.hellos.Expects.{Expects}
 use Rattle.client_commands.specs.declared.hellos.Expects.TheVariants.{Start, User, Password, NewName}
@@ -47,6 +47,8 @@ told asker (known HelpOfClient words) h = one_kind asker.listens _ _ refl refl
 told asker (known Commands words) h = one_kind asker.listens _ _ refl refl
 told asker (known Docs words) h = one_kind asker.listens _ _ refl refl
 told asker (known Count words) h = one_kind asker.listens _ _ refl refl
+told asker (known InfoOfCommands words) h = one_kind asker.listens _ _ refl refl
+told asker (known ListOfCommands words) h = one_kind asker.listens _ _ refl refl
 told asker (known HelpOfCommand words) h = one_kind asker.listens _ _ refl refl
 told asker (known Role words) h = one_kind asker.listens _ _ refl refl
 told asker (known Publish words) h = one_kind asker.listens _ _ refl refl
@@ -140,7 +142,9 @@ command_keeps words [] = other Commands [] words refl
 command_keeps words (word ∷ args) =
     both words (is_called (codes "docs") word) _ _ (other Docs args words refl)
     (both words (is_called (codes "count") word) _ _ (taken_keeps words Count (length args == 0) args (other Count args words refl))
-    (both words (is_called (codes "help") word) _ _ (taken_keeps words HelpOfCommand (length args == 0) args (other HelpOfCommand args words refl)) tt))
+    (both words (is_called (codes "info") word) _ _ (other InfoOfCommands args words refl)
+    (both words (is_called (codes "list") word) _ _ (other ListOfCommands args words refl)
+    (both words (is_called (codes "help") word) _ _ (taken_keeps words HelpOfCommand (length args == 0) args (other HelpOfCommand args words refl)) tt))))
 
 sub_keeps : (words : List (List ℕ)) (sub : Option Sub) (word : List ℕ) (args : List (List ℕ)) → Keeps words (table.subcommand sub word args)
 sub_keeps words None word args = tt
@@ -280,6 +284,8 @@ known_needs asker HelpOfClient words h k = never asker.admitted h (else_case ask
 known_needs asker Commands words h k = never asker.admitted h (else_case asker.listens asker.admitted asker.admitted h k)
 known_needs asker Docs words h k = never asker.admitted h (else_case asker.listens asker.admitted asker.admitted h k)
 known_needs asker Count words h k = never asker.admitted h (else_case asker.listens asker.admitted asker.admitted h k)
+known_needs asker InfoOfCommands words h k = never asker.admitted h (else_case asker.listens asker.admitted asker.admitted h k)
+known_needs asker ListOfCommands words h k = never asker.admitted h (else_case asker.listens asker.admitted asker.admitted h k)
 known_needs asker HelpOfCommand words h k = never asker.admitted h (else_case asker.listens asker.admitted asker.admitted h k)
 known_needs asker Role words h k = never asker.admitted h (else_case asker.listens asker.admitted asker.admitted h k)
 known_needs asker Publish words h k = never asker.admitted h (else_case asker.listens asker.admitted asker.admitted h k)

@@ -10,7 +10,7 @@ use Rattle.resp2.specs.declared.command.CommandFault.TheVariants.{UnknownCommand
 use Rattle.resp2.specs.Commands.{redis_command_of, words}
 use Rattle.resp2.specs.Framing.Frame.{Frame, FrameList, simple, fault, int, bulk, null_bulk, items, null_items, no_frames, frame, frames_of, spelling}
 use Rattle.client_commands.specs.declared.verbs.Verb.{Verb}
-use Rattle.client_commands.specs.declared.verbs.Verb.TheVariants.{Ping, Hello, Auth, SetName, SetInfo, GetName, Id, OfClients, Own, Kill, NoEvict, Reply, HelpOfClient, Commands, Docs, Count, HelpOfCommand, Role, Publish, Info, Sentinel}
+use Rattle.client_commands.specs.declared.verbs.Verb.TheVariants.{Ping, Hello, Auth, SetName, SetInfo, GetName, Id, OfClients, Own, Kill, NoEvict, Reply, HelpOfClient, Commands, Docs, Count, InfoOfCommands, ListOfCommands, HelpOfCommand, Role, Publish, Info, Sentinel}
 use Rattle.client_commands.specs.declared.subcommands.Sub.{Sub}
 use Rattle.client_commands.specs.declared.subcommands.Sub.TheVariants.{Help, PendingScripts, InfoCache, Config, SetOption, Monitor, Remove, Reset, Simulate, Debug}
 use Rattle.client_commands.specs.declared.hellos.Expects.{Expects}
@@ -24,6 +24,8 @@ use Rattle.client_commands.specs.Protocols.{version, protocol_asked}
 use Rattle.client_commands.specs.Choosing.{Wanted, Chosen, fits, unfit, anyone, kind_named, no_kind, chosen_by, places_of}
 use Rattle.client_commands.specs.ClientLines.{client_lines}
 use Rattle.client_commands.specs.Subcommands.{sub_name, all_subs, sub_among, takes_count, not_at_runtime, no_trials, only_get}
+use Rattle.client_commands.specs.Rows.{families}
+use Rattle.client_commands.specs.Tables.{table, command_info, command_docs, command_list}
 use Rattle.client_commands.specs.Helps.{told_lines, sentinel_help, client_help, command_help}
 use Rattle.client_commands.specs.Refusals.{is_called, printed_byte, wrong_arguments, unknown_subcommand, unknown_command, syntax_error, wrong_password, no_password, no_auth, no_auth_yet, no_name, no_such_protocol, no_protocol, no_option, no_hello, not_while_listening}
 
@@ -74,6 +76,8 @@ verb_name HelpOfClient = codes "client|help"
 verb_name Commands = codes "command"
 verb_name Docs = codes "command|docs"
 verb_name Count = codes "command|count"
+verb_name InfoOfCommands = codes "command|info"
+verb_name ListOfCommands = codes "command|list"
 verb_name HelpOfCommand = codes "command|help"
 verb_name Role = codes "role"
 verb_name Publish = codes "publish"
@@ -149,9 +153,15 @@ command (word ∷ words) =
       | true ↦ known Docs words
       | false ↦ elim (is_called (codes "count") word) [
         | true ↦ taken Count (length words == 0) words
-        | false ↦ elim (is_called (codes "help") word) [
-          | true ↦ taken HelpOfCommand (length words == 0) words
-          | false ↦ refused (unknown_subcommand (codes "COMMAND HELP.") word)
+        | false ↦ elim (is_called (codes "info") word) [
+          | true ↦ known InfoOfCommands words
+          | false ↦ elim (is_called (codes "list") word) [
+            | true ↦ known ListOfCommands words
+            | false ↦ elim (is_called (codes "help") word) [
+              | true ↦ taken HelpOfCommand (length words == 0) words
+              | false ↦ refused (unknown_subcommand (codes "COMMAND HELP.") word)
+            ]
+          ]
         ]
       ]
     ]
@@ -523,7 +533,7 @@ is_hello_channel word = bytes_eq word (codes "__sentinel__:hello")
 abbrev pub publish : List (List ℕ) → Frame
 publish words = elim (is_hello_channel (first words)) [ true ↦ int (pos 1) | false ↦ no_hello ]
 
--- the answer to a command of a connection that doesn't listen; of the commands their number is told, and none is described
+-- the answer to a command of a connection that doesn't listen
 abbrev pub executed : ClientInfo → Verb → List (List ℕ) → Answer
 executed asker Ping words = said (bulk (first words))
 executed asker Hello words = said (hello asker words)
@@ -538,9 +548,11 @@ executed asker Kill words = said (kill asker words)
 executed asker NoEvict words = said (no_evict words)
 executed asker Reply words = said (reply words)
 executed asker HelpOfClient words = said (told_lines client_help)
-executed asker Commands words = said (items no_frames)
-executed asker Docs words = said (items no_frames)
-executed asker Count words = said (int (pos 13))
+executed asker Commands words = said table
+executed asker Docs words = said (command_docs words)
+executed asker Count words = said (int (pos (length families)))
+executed asker InfoOfCommands words = said (command_info words)
+executed asker ListOfCommands words = said (command_list words)
 executed asker HelpOfCommand words = said (told_lines command_help)
 executed asker Role words = said (role (names_of asker.masters))
 executed asker Publish words = said (publish words)

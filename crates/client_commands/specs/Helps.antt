@@ -85,6 +85,8 @@ command_help =
     codes "    Return details about all Redis commands." ∷
     codes "COUNT" ∷
     codes "    Return the total number of commands in this Redis server." ∷
+    codes "LIST" ∷
+    codes "    Return a list of all commands in this Redis server." ∷
     codes "INFO [<command-name> ...]" ∷
     codes "    Return details about multiple Redis commands." ∷
     codes "    If no command names are given, documentation details for all" ∷

@@ -5,6 +5,10 @@ pub mod Choosing
 pub mod ClientLines
 pub mod Subcommands
 pub mod Helps
+pub mod Pieces
+pub mod Rows
+pub mod Descriptions
+pub mod Tables
 pub mod Courtesies
 pub mod Infos
 pub mod Lines

@@ -6,15 +6,15 @@ ghost use Rattle.resp2.specs.Framing.Frame.{view, frames_view, spelling};
 ghost use Rattle.client_commands.specs.Courtesies.{ClientInfo, known, executed, while_listening, name_after, admitted_after, killed_after, killed_by, or_killed, protocol_after, protocol_by, or_protocol, is_for_strangers, is_barred, admitted_by, or_admitted, words_of, is_miscounted, is_refused, names_channels, answered, named, looked_up_in, left, unless_stranger, or_left, or_same, asks_nothing, reply_to, courtesy, asker_after, kind_of, text_of};
 
 use crate::client_info::ClientInfo;
-use crate::clients::{
-    get_name, no_evict, pong, publish, reply, role, say_bulk, say_none, say_number,
-};
+use crate::clients::{get_name, no_evict, pong, publish, reply, role, say_bulk, say_number};
 use crate::hellos::{auth, first, hello, is_client_name, set_name};
 use crate::helps::{client_help, command_help};
 use crate::kills::kill;
 use crate::listing::{client_list, own_line};
 use crate::lookup::looked_up;
 use crate::refusals::{is_called, refuse_listener, say};
+use crate::rows::families;
+use crate::tables::{command_docs, command_info, command_list, say_table};
 use crate::told_subcommands::sentinel_told;
 use crate::verbs::Verb;
 use ballot_law::{Command, NoMemory, Text};
@@ -169,9 +169,11 @@ fn execute(
         Verb::NoEvict => no_evict(words, out),
         Verb::Reply => reply(words, out),
         Verb::HelpOfClient => client_help(out),
-        Verb::Commands => say_none(out),
-        Verb::Docs => say_none(out),
-        Verb::Count => say_number(out, 13),
+        Verb::Commands => say_table(out),
+        Verb::Docs => command_docs(alloc, words, out),
+        Verb::Count => say_number(out, families().len() as u64),
+        Verb::InfoOfCommands => command_info(words, out),
+        Verb::ListOfCommands => command_list(alloc, words, out),
         Verb::HelpOfCommand => command_help(out),
         Verb::Role => role(asker.masters(), out),
         Verb::Publish => publish(words, out),

@@ -77,12 +77,14 @@ const CLIENT_HELP: &[u8] = b"*33\r\n\
 +HELP\r\n\
 +    Prints this help.\r\n";
 
-const COMMAND_HELP: &[u8] = b"*15\r\n\
+const COMMAND_HELP: &[u8] = b"*17\r\n\
 +COMMAND <subcommand> [<arg> [value] [opt] ...]. Subcommands are:\r\n\
 +(no subcommand)\r\n\
 +    Return details about all Redis commands.\r\n\
 +COUNT\r\n\
 +    Return the total number of commands in this Redis server.\r\n\
++LIST\r\n\
++    Return a list of all commands in this Redis server.\r\n\
 +INFO [<command-name> ...]\r\n\
 +    Return details about multiple Redis commands.\r\n\
 +    If no command names are given, documentation details for all\r\n\

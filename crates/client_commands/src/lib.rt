@@ -11,10 +11,12 @@
 #![tactic(auto)]
 
 mod choosing;
+mod classes;
 mod client_info;
 mod clients;
 mod command_reader;
 mod courtesies;
+mod descriptions;
 mod hellos;
 mod helps;
 mod infos;
@@ -24,10 +26,13 @@ mod lines;
 mod listing;
 mod lookup;
 mod passwords;
+mod pieces;
 mod port_facts;
 mod protocols;
 mod refusals;
+mod rows;
 mod subcommands;
+mod tables;
 mod told_subcommands;
 mod verbs;
 

@@ -113,6 +113,12 @@ fn command<'a>(words: &'a [Text], out: &mut OutText) -> Result<Option<(Verb, &'a
     if is_called(b"count", word.as_slice()) {
         return taken(Verb::Count, more.len() == 0, more, out);
     }
+    if is_called(b"info", word.as_slice()) {
+        return Ok(Some((Verb::InfoOfCommands, more)));
+    }
+    if is_called(b"list", word.as_slice()) {
+        return Ok(Some((Verb::ListOfCommands, more)));
+    }
     if is_called(b"help", word.as_slice()) {
         return taken(Verb::HelpOfCommand, more.len() == 0, more, out);
     }

@@ -183,7 +183,7 @@ fn settings(alloc: Global, pattern: &[u8], figures: &Figures) -> Result<Vec<Text
 }
 
 /// The word in lower case.
-fn lowered(alloc: Global, word: &[u8]) -> Result<Text, NoMemory>
+pub(crate) fn lowered(alloc: Global, word: &[u8]) -> Result<Text, NoMemory>
     ensures { IfOk result (λ lowered. lowered ≡ lower word.now) }
 {
     let mut lowered = Vec::new(alloc);

@@ -1,6 +1,9 @@
 pub mod Joining
 pub mod Keeping
 pub mod Retold
+pub mod Headers
+pub mod SameNested
+pub mod NestedTold
 pub mod SameValues
 pub mod Serving
 pub mod Stepping

@@ -14,7 +14,7 @@ use Rattle.resp2.specs.Framing.Writing.{Adds}
 use Rattle.resp2.specs.Framing.Stream.{Held, reading, bytes_in, Feeds, Answers, SoFar}
 use Rattle.resp2.proofs.FramingLemmas.Drains.{end_drains}
 use Rattle.courteous_sessions.specs.declared.shapes.Shape.{Shape}
-use Rattle.courteous_sessions.specs.declared.shapes.Shape.TheVariants.{Plain, Whole, Pairs, Tables, Verbatim, Pushes}
+use Rattle.courteous_sessions.specs.declared.shapes.Shape.TheVariants.{Plain, Whole, Pairs, Tables, Verbatim, Pushes, Rows, Docs}
 use Rattle.courteous_sessions.specs.Retelling.{spelling3, spellings3, all_told_as, AreTold, IsTold, IsTold3, JoinsTold, null_line, is_null, first_of, second_of}
 
 -- ---- the words of a command
@@ -140,6 +140,8 @@ nothing_in_three Pairs bytes told = none_told Pairs bytes told
 nothing_in_three Tables bytes told = none_told Tables bytes told
 nothing_in_three Verbatim bytes told = none_told Verbatim bytes told
 nothing_in_three Pushes bytes told = none_told Pushes bytes told
+nothing_in_three Rows bytes told = none_told Rows bytes told
+nothing_in_three Docs bytes told = none_told Docs bytes told
 
 -- of no answer nothing is told
 pub told_of_nothing : (protocol : Protocol) (shape : Shape) (bytes : List ℕ) → IsTold protocol shape [] bytes → bytes ≡ []

@@ -7,36 +7,10 @@ use Rattle.std.proofs.lemmas.Fmt.{decimal_injective}
 use Rattle.resp2.specs.Framing.Frame.{Frame, FrameList, simple, fault, int, bulk, null_bulk, items, null_items, no_frames, frame, count, line_end, spelling, spellings, IsPlain, ArePlain}
 use Rattle.resp2.proofs.FramingLemmas.Numbers.{decimal_line}
 use Rattle.resp2.proofs.FramingLemmas.Streams.{one_spelling}
-use Rattle.courteous_sessions.specs.declared.shapes.Shape.TheVariants.{Plain, Whole, Pairs, Tables, Verbatim, Pushes}
+use Rattle.courteous_sessions.proofs.Headers.{header_split, one_more, none_or_more, lead, apart, halves, half_below}
+use Rattle.courteous_sessions.proofs.SameNested.{same_rows, same_docs}
+use Rattle.courteous_sessions.specs.declared.shapes.Shape.TheVariants.{Plain, Whole, Pairs, Tables, Verbatim, Pushes, Rows, Docs}
 use Rattle.courteous_sessions.specs.Retelling.{spelling3, spellings3, map_spelling, map_spellings, table_spelling, text_spelling, push_spelling, with_one_null, each_with_one_null, IsPaired, ArePaired, HasPairedRows, HasShortText, SaysTheSame, null_line, without_null, HoldsNoNull, HoldNoNull, PlainIsSpelled}
-
--- two headers of one kind that begin the same bytes tell the same number, and the same bytes follow them
-header_split : (kind n m : ℕ) (some other x y : List ℕ) → n < 2 ^ 64 → m < 2 ^ 64
-    → (kind ∷ ((decimal n ++ line_end) ++ some)) ++ x ≡ (kind ∷ ((decimal m ++ line_end) ++ other)) ++ y → (n ≡ m) × (some ++ x ≡ other ++ y)
-header_split kind n m some other x y low below e =
-    let tails : ((decimal n ++ line_end) ++ some) ++ x ≡ ((decimal m ++ line_end) ++ other) ++ y = cc in
-    let parts : (decimal n ++ line_end) ++ (some ++ x) ≡ (decimal m ++ line_end) ++ (other ++ y) =
-    sym (append_assoc (decimal n ++ line_end) some x) ∙ tails ∙ append_assoc (decimal m ++ line_end) other y
-    in
-    let same = one_spelling (simple (decimal n)) (simple (decimal m)) (some ++ x) (other ++ y) (decimal_line n low) (decimal_line m below)
-    (ap (λ (t : List ℕ). 43 ∷ t) parts)
-    in
-    let text : decimal n ≡ decimal m = let it = same.0 in cc in
-    (decimal_injective n m low below text, same.1)
-
-one_more : (n m : ℕ) → suc n ≡ suc m → n ≡ m
-one_more n m e = cc
-
-none_or_more : (n : ℕ) → 0 ≡ suc n → ⊥
-none_or_more n e = cc
-
--- what begins with different bytes differs
-abbrev lead : List ℕ → ℕ
-lead [] = 0
-lead (byte ∷ bytes) = byte
-
-apart : (n m : ℕ) → eqb n m ≡ false → n ≡ m → ⊥
-apart n m differs e = true≢false (sym (eq-eqb n m e) ∙ differs)
 
 mutual
   same3 : (f g : Frame) (x y : List ℕ) → IsPlain f → IsPlain g → spelling3 f ++ x ≡ spelling3 g ++ y → (with_one_null f ≡ with_one_null g) × (x ≡ y)
@@ -64,13 +38,6 @@ mutual
       let first = same3 f g (spellings3 fs ++ x) (spellings3 gs ++ y) p.0 q.0 whole in
       let rest = sames3 fs gs x y p.1 q.1 (one_more (count fs) (count gs) c) first.1 in
       (ap (λ (h : Frame). frame h (each_with_one_null fs)) first.0 ∙ ap (λ (hs : FrameList). frame (with_one_null g) hs) rest.0, rest.1)
-
--- as many names as values
-halves : (n m : ℕ) → n % 2 ≡ 0 → m % 2 ≡ 0 → n / 2 ≡ m / 2 → n ≡ m
-halves n m even too same = omega (arith, even, too, same)
-
-half_below : (n : ℕ) → n < 2 ^ 64 → n / 2 < 2 ^ 64
-half_below n low = omega (arith, low)
 
 same_map : (f g : Frame) (x y : List ℕ) → IsPlain f → IsPlain g → IsPaired f → IsPaired g → map_spelling f ++ x ≡ map_spelling g ++ y
     → (with_one_null f ≡ with_one_null g) × (x ≡ y)
@@ -144,6 +111,8 @@ says_the_same Pairs f g x y p q a b e = same_map f g x y p q a b e
 says_the_same Tables f g x y p q a b e = same_table f g x y p q a b e
 says_the_same Verbatim f g x y p q a b e = same_text f g x y p q a b e
 says_the_same Pushes f g x y p q a b e = same_push f g x y p q e
+says_the_same Rows f g x y p q a b e = same_rows f g x y p q e
+says_the_same Docs f g x y p q a b e = same_docs f g x y p q e
 
 -- ---- what is told as it is
 

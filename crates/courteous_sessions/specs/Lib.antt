@@ -1,4 +1,5 @@
 pub mod Epochs
+pub mod Nested
 pub mod Retelling
 pub mod Visits
 pub mod Events

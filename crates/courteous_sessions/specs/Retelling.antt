@@ -8,8 +8,10 @@ use Rattle.pubsub.specs.Answering.{is_called}
 use Rattle.resp2.specs.declared.command.CommandFault.{CommandFault}
 use Rattle.resp2.specs.Commands.{word, redis_command_of}
 use Rattle.resp2.specs.Framing.Frame.{Frame, FrameList, simple, fault, int, bulk, null_bulk, items, null_items, no_frames, frame, count, line_end, spelling, spellings, IsPlain}
+use Rattle.courteous_sessions.specs.Nested.{spelling_in, rows_spelling}
+use Rattle.courteous_sessions.specs.declared.nested.Manner.TheVariants.{InDocs}
 use Rattle.courteous_sessions.specs.declared.shapes.Shape.{Shape}
-use Rattle.courteous_sessions.specs.declared.shapes.Shape.TheVariants.{Plain, Whole, Pairs, Tables, Verbatim, Pushes}
+use Rattle.courteous_sessions.specs.declared.shapes.Shape.TheVariants.{Plain, Whole, Pairs, Tables, Verbatim, Pushes, Rows, Docs}
 
 -- ---- the spelling of protocol 3
 
@@ -63,6 +65,8 @@ told_as Pairs f = map_spelling f
 told_as Tables f = table_spelling f
 told_as Verbatim f = text_spelling f
 told_as Pushes f = push_spelling f
+told_as Rows f = rows_spelling f
+told_as Docs f = spelling_in InDocs f
 
 abbrev pub all_told_as : Shape → FrameList → List ℕ
 all_told_as shape no_frames = []
@@ -110,6 +114,8 @@ CanBe Pairs f = IsPaired f
 CanBe Tables f = HasPairedRows f
 CanBe Verbatim f = HasShortText f
 CanBe Pushes f = Unit {0}
+CanBe Rows f = Unit {0}
+CanBe Docs f = Unit {0}
 
 -- Two values that protocol 3 tells alike, whatever follows them, are the same in protocol 2, up to which null is told
 abbrev pub SaysTheSame : Type 0
@@ -156,6 +162,8 @@ IsTold3 Pairs answer bytes = AreTold Pairs answer bytes
 IsTold3 Tables answer bytes = AreTold Tables answer bytes
 IsTold3 Verbatim answer bytes = AreTold Verbatim answer bytes
 IsTold3 Pushes answer bytes = AreTold Pushes answer bytes
+IsTold3 Rows answer bytes = AreTold Rows answer bytes
+IsTold3 Docs answer bytes = AreTold Docs answer bytes
 
 -- protocol 2 tells each answer as it is
 abbrev pub IsTold : Protocol → Shape → (answer bytes : List ℕ) → Type 0
@@ -182,8 +190,13 @@ shape_of_sentinel word =
 abbrev pub shape_of_client : (word : List ℕ) → Shape
 shape_of_client word = elim (is_called (codes "list") word || is_called (codes "info") word) [ true ↦ Verbatim | false ↦ Plain ]
 
-abbrev pub shape_of_docs : (word : List ℕ) → Shape
-shape_of_docs word = elim (is_called (codes "docs") word) [ true ↦ Pairs | false ↦ Plain ]
+-- of COMMAND without a word after it, or of a subcommand of it
+abbrev pub shape_of_table : (word : List ℕ) → Shape
+shape_of_table word =
+    elim (is_called (codes "docs") word) [
+      | true ↦ Docs
+      | false ↦ elim (is_called (codes "info") word || is_called (codes "") word) [ true ↦ Rows | false ↦ Plain ]
+    ]
 
 -- of commands beside the Sentinel's own, by their name and the word after it
 abbrev pub shape_of_words : (name word : List ℕ) → Shape
@@ -194,7 +207,7 @@ shape_of_words name word =
         | true ↦ shape_of_sentinel word
         | false ↦ elim (is_called (codes "client") name) [
           | true ↦ shape_of_client word
-          | false ↦ elim (is_called (codes "command") name) [ true ↦ shape_of_docs word | false ↦ Plain ]
+          | false ↦ elim (is_called (codes "command") name) [ true ↦ shape_of_table word | false ↦ Plain ]
         ]
       ]
     ]

@@ -14,6 +14,7 @@ mod epochs;
 mod exchange;
 mod hearing;
 mod laws;
+mod nested;
 mod questions;
 mod retelling;
 mod shapes;

@@ -7,6 +7,7 @@ ghost use Rattle.resp2.specs.Framing.Stream.{SoFar};
 ghost use Rattle.courteous_sessions.specs.Retelling.{spelling3, spellings3, map_spelling, map_spellings, table_spelling, text_spelling, push_spelling, told_as, all_told_as, is_null, without_null, AreTold, IsTold3, IsTold, JoinsTold};
 
 use crate::exchange::put_out;
+use crate::nested::{docs_in, push_command_rows, push_docs};
 use crate::shapes::Shape;
 use ballot_law::{NoMemory, Text};
 use bytes::BytesMut;
@@ -168,6 +169,8 @@ fn push_told(out: &mut OutText, shape: Shape, value: &Value) -> Result<(), NoMem
         Shape::Tables => push_table(out, value),
         Shape::Verbatim => push_text(out, value),
         Shape::Pushes => push_push(out, value),
+        Shape::Rows => push_command_rows(out, value),
+        Shape::Docs => push_docs(out, value),
     }
 }
 
@@ -213,7 +216,7 @@ fn values_in(alloc: Global, bytes: &[u8]) -> Result<Vec<Value>, NoMemory>
 }
 
 /// What comes after the first line of these bytes.
-fn after_line(bytes: &[u8]) -> &[u8] {
+pub(crate) fn after_line(bytes: &[u8]) -> &[u8] {
     let mut rest = bytes;
     while let [byte, more @ ..] = rest {
         if *byte == b'\n' {
@@ -272,6 +275,8 @@ fn values_of(alloc: Global, shape: Shape, answer: &[u8]) -> Result<Vec<Value>, N
     match (shape, answer) {
         (Shape::Tables, [b'*', ..]) => alone(alloc, array_in(alloc, answer)?),
         (Shape::Verbatim, [b'$', ..]) => alone(alloc, text_in(alloc, answer)?),
+        (Shape::Rows, [b'*', ..]) => alone(alloc, array_in(alloc, answer)?),
+        (Shape::Docs, [b'*', ..]) => alone(alloc, docs_in(alloc, answer)?),
         _ => values_in(alloc, answer),
     }
 }
@@ -319,6 +324,8 @@ fn retell(alloc: Global, shape: Shape, answer: &[u8], out: &mut OutText) -> Resu
         Shape::Tables => retell_values(alloc, Shape::Tables, answer, out),
         Shape::Verbatim => retell_values(alloc, Shape::Verbatim, answer, out),
         Shape::Pushes => retell_values(alloc, Shape::Pushes, answer, out),
+        Shape::Rows => retell_values(alloc, Shape::Rows, answer, out),
+        Shape::Docs => retell_values(alloc, Shape::Docs, answer, out),
     }
 }
 

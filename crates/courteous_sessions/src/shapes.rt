@@ -3,7 +3,7 @@
 ghost use Rattle.std.specs.Prelude.{◌≡◌};
 ghost use Rattle.pubsub.specs.Answering.{is_called};
 ghost use Rattle.resp2.specs.Framing.Frame.{view, frames_view};
-ghost use Rattle.courteous_sessions.specs.Retelling.{shape_of_command, shape_of_sentinel, shape_of_client, shape_of_docs, shape_of_words, items_of, first_of, second_of, first_word, second_word, shape_of_asked, shape_of, is_subscribing};
+ghost use Rattle.courteous_sessions.specs.Retelling.{shape_of_command, shape_of_sentinel, shape_of_client, shape_of_table, shape_of_words, items_of, first_of, second_of, first_word, second_word, shape_of_asked, shape_of, is_subscribing};
 ghost use Rattle.resp2.specs.Commands.{redis_command_of};
 
 use ballot_law::Command;
@@ -24,6 +24,10 @@ pub(crate) enum Shape {
     Verbatim,
     /// Each array as a push.
     Pushes,
+    /// An array of rows of commands, with sets in them.
+    Rows,
+    /// Names and descriptions of commands, with maps and sets in them.
+    Docs,
 }
 
 /// Whether the word is this name, whatever the case of its letters.
@@ -76,12 +80,15 @@ fn shape_of_client(word: &[u8]) -> Shape
     Shape::Plain
 }
 
-/// The same of a subcommand of COMMAND.
-fn shape_of_docs(word: &[u8]) -> Shape
-    ensures { result ≡ shape_of_docs word.now }
+/// The same of COMMAND, where no word comes after it, or of its subcommand with this name.
+fn shape_of_table(word: &[u8]) -> Shape
+    ensures { result ≡ shape_of_table word.now }
 {
     if is_called(b"docs", word) {
-        return Shape::Pairs;
+        return Shape::Docs;
+    }
+    if is_called(b"info", word) || is_called(b"", word) {
+        return Shape::Rows;
     }
     Shape::Plain
 }
@@ -100,7 +107,7 @@ fn shape_of_words(name: &[u8], word: &[u8]) -> Shape
         return shape_of_client(word);
     }
     if is_called(b"command", name) {
-        return shape_of_docs(word);
+        return shape_of_table(word);
     }
     Shape::Plain
 }

@@ -85,6 +85,8 @@ impl Exchange {
             Shape::Tables => self.retell_anew(start, Shape::Tables),
             Shape::Verbatim => self.retell_anew(start, Shape::Verbatim),
             Shape::Pushes => self.retell_anew(start, Shape::Pushes),
+            Shape::Rows => self.retell_anew(start, Shape::Rows),
+            Shape::Docs => self.retell_anew(start, Shape::Docs),
         }
     }
 

@@ -1,3 +1,4 @@
+pub mod Asking
 pub mod Hearing
 pub mod Keeping
 pub mod Places

@@ -8,7 +8,7 @@ ghost use Rattle.links.specs.Sessions.Links.{Receives};
 ghost use Rattle.node_texts.specs.Messages.MessageTexts.{IsWritable};
 ghost use Rattle.links.specs.declared.schedule.Stage.TheVariants.{Closed, Opening, Open};
 ghost use Rattle.links.specs.declared.schedule.Stale.TheVariants.{Unreached, Silent, NoHello};
-ghost use Rattle.links.specs.NodeLinks.{fresh, closed_at, opening_at, asked_at, row_asked_at, ack_asked_at, IsHeardOn, IsBounded};
+ghost use Rattle.links.specs.NodeLinks.{fresh, closed_at, opening_at, asked_at, row_asked_at, ack_asked_at, AsksByItself, IsOwn, IsHeardOn, IsBounded};
 ghost use Rattle.links.specs.Schedules.{IsPast, closed};
 
 use crate::schedule::{CONNECT_MS, NO_HELLO_MS, SILENT_MS, Schedule, Stale};
@@ -241,10 +241,12 @@ impl NodeLink {
     }
 
     /// Puts out a message by itself, as a PING.
+    #[tactic(auto, using(crate::proofs::Asking::asks_one))]
     fn ask_alone(&mut self, body: Body, now: u64) -> Result<(), LinkFault>
         requires { IsWritable body }
         ensures shut { self.old.schedule.stage ≢ Open → self.new ≡ self.old }
         ensures ok { OnOk result (self.old.schedule.stage ≡ Open → self.new ≡ asked_at now body self.old) }
+        ensures alone { IsOwn body → OnOk result (AsksByItself self.old.talk self.new.talk) }
         ensures err { OnErr result (self.new ≡ closed_at now self.old) }
         ensures target { self.new.target ≡ self.old.target }
     {
@@ -258,27 +260,34 @@ impl NodeLink {
     }
 
     /// Sends a PING, where it is open and takes messages. A fault closes it.
+    #[tactic(auto, using(crate::proofs::Asking::asks_nothing))]
     pub fn ping(&mut self, now: u64) -> Result<(), LinkFault>
         ensures pinged { OnOk result (self.new.schedule.pinged ≡ Some now) }
         ensures listens { self.old.target.listens ≡ true → self.new.talk ≡ self.old.talk }
         ensures asked { OnOk result (self.old.target.listens ≡ false → self.old.schedule.stage ≡ Open
             → self.new.talk ≡ (asked_at now Body.Ping self.old).talk) }
+        ensures alone { OnOk result (AsksByItself self.old.talk self.new.talk) }
+        ensures err { OnErr result (self.new.talk ≡ fresh self.old.target) }
         ensures target { self.new.target ≡ self.old.target }
     {
-        if !self.target.listens {
-            self.ask_alone(Body::Ping, now)?;
+        if self.target.listens {
+            self.schedule.ping(now);
+            return Ok(());
         }
+        self.ask_alone(Body::Ping, now)?;
         self.schedule.ping(now);
         Ok(())
     }
 
     /// Asks for INFO, where it is open, takes messages, and is to a data node: so it is known at once what came of an
     /// order. A fault closes it.
+    #[tactic(auto, using(crate::proofs::Asking::asks_nothing))]
     pub fn look(&mut self, now: u64) -> Result<(), LinkFault>
         ensures listens { self.old.target.listens ≡ true → self.new ≡ self.old }
         ensures shut { self.old.schedule.stage ≢ Open → self.new ≡ self.old }
         ensures asked { OnOk result (self.old.target.listens ≡ false → self.old.schedule.stage ≡ Open
             → (number : ℕ) → self.old.target.node ≡ StoreAt number → self.new ≡ asked_at now Body.InfoAsk self.old) }
+        ensures alone { OnOk result (AsksByItself self.old.talk self.new.talk) }
         ensures err { OnErr result (self.new ≡ closed_at now self.old) }
         ensures target { self.new.target ≡ self.old.target }
     {
@@ -343,6 +352,8 @@ impl NodeLink {
 
     /// Asks for INFO by itself, where it is open, takes messages, and is to a data node. A fault closes it.
     fn ask_info(&mut self, now: u64) -> Result<(), LinkFault>
+        ensures alone { OnOk result (AsksByItself self.old.talk self.new.talk) }
+        ensures err { OnErr result (self.new.talk ≡ fresh self.old.target) }
         ensures target { self.new.target ≡ self.old.target }
     {
         self.look(now)?;
@@ -350,16 +361,40 @@ impl NodeLink {
         Ok(())
     }
 
-    /// Sends the PING and the INFO that are due. A fault closes it.
-    pub fn ask_due(&mut self, now: u64) -> Result<(), LinkFault>
+    /// Sends the PING, where it is due. A fault closes it.
+    #[tactic(auto, using(crate::proofs::Asking::asks_nothing))]
+    fn ping_due(&mut self, now: u64) -> Result<(), LinkFault>
+        ensures alone { OnOk result (AsksByItself self.old.talk self.new.talk) }
+        ensures err { OnErr result (self.new.talk ≡ fresh self.old.target) }
         ensures target { self.new.target ≡ self.old.target }
     {
         if self.schedule.is_ping_due(now) {
-            self.ping(now)?;
-        }
-        if self.schedule.is_info_due(now) {
-            self.ask_info(now)?;
+            return self.ping(now);
         }
         Ok(())
+    }
+
+    /// Asks for INFO by itself, where it is due. A fault closes it.
+    #[tactic(auto, using(crate::proofs::Asking::asks_nothing))]
+    fn info_due(&mut self, now: u64) -> Result<(), LinkFault>
+        ensures alone { OnOk result (AsksByItself self.old.talk self.new.talk) }
+        ensures err { OnErr result (self.new.talk ≡ fresh self.old.target) }
+        ensures target { self.new.target ≡ self.old.target }
+    {
+        if self.schedule.is_info_due(now) {
+            return self.ask_info(now);
+        }
+        Ok(())
+    }
+
+    /// Sends the PING and the INFO that are due, and nothing else. A fault closes it.
+    #[tactic(auto, using(crate::proofs::Asking::asks_then))]
+    pub fn ask_due(&mut self, now: u64) -> Result<(), LinkFault>
+        ensures alone { OnOk result (AsksByItself self.old.talk self.new.talk) }
+        ensures err { OnErr result (self.new.talk ≡ fresh self.old.target) }
+        ensures target { self.new.target ≡ self.old.target }
+    {
+        self.ping_due(now)?;
+        self.info_due(now)
     }
 }

@@ -1,6 +1,8 @@
 //! A Sentinel of a group in one process, and its threads.
 
 ghost use Rattle.std.specs.Prelude.{◌≡◌, ◌≢◌, ◌<◌, ◌+◌, ◌-◌, ◌^◌, IfErr, IfOk, length};
+ghost use Rattle.ballot_law.specs.declared.messages.Message.{Message};
+ghost use Rattle.sentinel_runtime.specs.Saying.{IsReleased};
 ghost use Rattle.sentinel_runner.specs.declared.started.TheConstants.{BESIDE};
 ghost use Rattle.sentinel_runner.specs.declared.group_fault.GroupFault.TheVariants.{NotOneRoster};
 
@@ -234,6 +236,7 @@ fn run_named<J: Which + Send + Sync, S: ConfStore + Drop + Send, R>(
 where
     R: Threads + Wait + Clock + ReadsTimes + Log + Sync,
     requires named { opened.cell.id ≡ J.cell }
+    requires says { (message : Message) → IsReleased opened.cell.start message → ∥ J.said message ∥₁ }
     requires seats { opened.beside ≡ BESIDE }
 {
     let Opened {

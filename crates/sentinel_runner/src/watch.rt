@@ -1,8 +1,10 @@
 //! One Sentinel of its own, which watches Redis servers and speaks to the other Sentinels over TCP.
 
 ghost use Rattle.std.specs.Prelude.{◌≡◌, ◌≢◌, ◌<◌, ◌≤◌, ◌+◌, ◌-◌, ◌^◌, IfErr, IfOk, IfSome, OnOk, length};
+ghost use Rattle.ballot_law.specs.declared.messages.Message.{Message};
 ghost use Rattle.sentinel_conf.specs.Rewritten.{rewritten};
 ghost use Rattle.sentinel_runner.specs.Opening.{IsOpenedAnew};
+ghost use Rattle.sentinel_runtime.specs.Saying.{IsReleased};
 ghost use Rattle.sentinel_runner.specs.declared.group_fault.GroupFault.TheVariants.{NotOneRoster};
 ghost use Rattle.sentinel_runner.specs.declared.opened.TheConstants.{PORT_THREADS_MAX};
 ghost use Rattle.sentinel_runner.specs.declared.watch.TheConstants.{BESIDE};
@@ -24,7 +26,7 @@ use std::rt::Clock;
 use std::sync::Wait;
 use std::sync::atomic::{AtomicU64, Ordering};
 use std::thread::{self, Threads};
-use tcp_transport::{Connections, Logins, SentinelEnd, TickLoop, WatchState};
+use tcp_transport::{Connections, Logins, PlannedConnections, SentinelEnd, TickLoop, WatchState};
 
 /// How many threads use a Sentinel beside those of its port: that of its ticks.
 const BESIDE: u16 = 1;
@@ -45,11 +47,10 @@ pub struct WatchSettings {
     pub reboots: Vec<u64>,
 }
 
-/// A Sentinel that is open, with its end of the connections, before its threads run.
+/// A Sentinel that is open, before its threads run.
 #[derive(Drop)]
 struct Watching<S: ConfStore> {
     opened: Opened<S>,
-    far: SentinelEnd,
     alloc: Global,
     ghost seats: { opened.beside ≡ BESIDE },
 }
@@ -58,7 +59,7 @@ struct Watching<S: ConfStore> {
 #[derive(Drop)]
 pub struct Watch<S: ConfStore> {
     watching: Watching<S>,
-    wires: Connections,
+    wires: PlannedConnections,
     state: WatchState,
 }
 
@@ -79,17 +80,17 @@ fn prove_store<S: ConfStore>(alloc: Global, conf: &Conf, store: &mut S) -> Resul
     Ok(())
 }
 
-/// The connections of the Sentinel of this conf, and its end of them.
+/// The connections that the Sentinel of this conf is to have.
 fn wires_of<R: Net>(
     rt: &R,
     alloc: Global,
     conf: &Conf,
     logins: Logins,
-) -> Result<(Connections, SentinelEnd), GroupFault>
+) -> Result<PlannedConnections, GroupFault>
     ensures roster { IfErr result (λ fault. fault ≢ NotOneRoster) }
 {
-    match Connections::new(rt, alloc, conf, logins) {
-        Ok(both) => Ok(both),
+    match PlannedConnections::of(rt, alloc, conf, logins) {
+        Ok(wires) => Ok(wires),
         Err(error) => Err(fault_of(&error)),
     }
 }
@@ -224,7 +225,7 @@ impl<S: ConfStore + Drop> Watch<S> {
             logins,
             reboots,
         } = settings;
-        let (wires, far) = wires_of(rt, alloc, &conf, logins)?;
+        let wires = wires_of(rt, alloc, &conf, logins)?;
         let room = room_of(rt, alloc, &conf, port, &admission)?;
         let wanted = admission.limit;
         let admission = admission.within(room);
@@ -240,7 +241,7 @@ impl<S: ConfStore + Drop> Watch<S> {
             ending: AtomicU64::new(0),
         };
         Ok(Watch {
-            watching: Watching { opened, far, alloc },
+            watching: Watching { opened, alloc },
             wires,
             state,
         })
@@ -248,8 +249,8 @@ impl<S: ConfStore + Drop> Watch<S> {
 
     /// Runs its threads until the Sentinel is halted; this thread has the connections. The store is gone then.
     ///
-    /// `Halted` where the store refused a text, whichever thread met that; `PortRefused` where the system no longer
-    /// tells of the connections, and `NoMemory` where a thread couldn't be made: `NotOneRoster` never comes.
+    /// `Halted` where the store refused a text, whichever thread met that; `PortRefused` where the system doesn't tell
+    /// of the connections, and `NoMemory` where a thread or its room couldn't be made: `NotOneRoster` never comes.
     pub fn run<R: Threads + Wait + Net + Clock + ReadsTimes + Log + Sync>(
         self,
         rt: &R,
@@ -275,13 +276,14 @@ fn run_named<J: Which + Send + Sync, S: ConfStore + Drop + Send, R, N: Net>(
     net: &N,
     state: &WatchState,
     watching: Watching<S>,
-    wires: Connections,
+    wires: PlannedConnections,
 )
 where
     R: Threads + Wait + Clock + ReadsTimes + Log + Sync,
     requires named { watching.opened.cell.id ≡ J.cell }
+    requires says { (message : Message) → IsReleased watching.opened.cell.start message → ∥ J.said message ∥₁ }
 {
-    let Watching { opened, far, alloc } = watching;
+    let Watching { opened, alloc } = watching;
     let Opened {
         cell,
         seat,
@@ -295,6 +297,10 @@ where
     let made = RunningSentinel::<J, S>::with_seat(alloc, cell, seat, place, number, port_threads);
     let Ok((member, seat)) = made else {
         return end_for_want(&state.run, &state.ending);
+    };
+    let (wires, far) = match wires.named::<J>() {
+        Ok(both) => both,
+        Err(error) => return note_lost(&state.run, &error),
     };
     far.guard(&member);
     let Ok(seated) = Seated::of(alloc, &member, seat, port, others) else {
@@ -321,7 +327,7 @@ where
 /// What the thread of a Sentinel's ticks has: its end of the connections, and its seat.
 #[derive(Drop)]
 struct TickPart<J: Which> {
-    far: SentinelEnd,
+    far: SentinelEnd<J>,
     seat: ThreadSeat<J>,
     alloc: Global,
 }
@@ -428,12 +434,12 @@ trait RunsWires {
 
 /// Connections with the handle for their sockets.
 #[derive(Drop)]
-struct NetWires<'n, N: Net> {
-    wires: Connections,
+struct NetWires<'n, J: Which, N: Net> {
+    wires: Connections<J>,
     net: &'n N,
 }
 
-impl<N: Net> RunsWires for NetWires<'_, N> {
+impl<J: Which, N: Net> RunsWires for NetWires<'_, J, N> {
     fn run<R: Wait + Clock + Log>(&mut self, rt: &R, state: &WatchState) {
         if let Err(error) = self.wires.run(rt, self.net, state) {
             note_lost(&state.run, &error);

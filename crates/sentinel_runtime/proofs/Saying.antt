@@ -1,9 +1,11 @@
 -- What a turn of a shared Sentinel shows may be sent.
-use Rattle.std.proofs.Common.{◌≡◌, List, [], ◌∷◌, ◌++◌, sym, ap, subst, drop, length}
+use Rattle.std.proofs.Common.{◌≡◌, List, [], ◌∷◌, ◌++◌, refl, sym, ap, ◌∙◌, subst, drop, length, append_assoc}
 use Rattle.std.specs.List.{AllByRecursion}
 use Rattle.std.specs.Prelude.{All}
 use Rattle.ballot_law.specs.declared.events.Input.{Input}
 use Rattle.ballot_law.specs.declared.messages.Output.{Output}
+use Rattle.ballot_law.specs.declared.messages.Message.{Message}
+use Rattle.ballot_law.specs.declared.messages.Output.TheVariants.{Send, Tell}
 use Rattle.boxed_nodes.specs.Sendable.{IsSendableOutput}
 use Rattle.ballot_law.specs.Limits.{IsWithinEvent}
 use Rattle.sentinel_rules.specs.Limits.{OutputsAreWithin, EpochsAreWithin}
@@ -17,6 +19,7 @@ use Rattle.sentinel_cell.specs.declared.view.View.{View}
 use Rattle.sentinel_cell.specs.Histories.{World, IsGood, IsOutcome, IsStep, IsLegal, after_outcome, replay, next_of}
 use Rattle.sentinel_cell.specs.declared.fault.ActFault.{ActFault}
 use Rattle.sentinel_cell.specs.Standing.{Adds, Faulted}
+use Rattle.sentinel_runtime.specs.Saying.{IsReleased, IsSaid}
 use Rattle.sentinel_cell.proofs.Acts.{first_steps, last_step}
 use Rattle.sentinel_cell.proofs.Cards.{good_after, good_replay}
 
@@ -58,3 +61,36 @@ added_shown start v w input before shown none a = subst (λ (b : List Output). A
 pub faulted_shown : (start : World) (v w : View) (input : Input) (fault : ActFault) (before shown : List Output) → before ≡ [] →
     Faulted start v input (drop (length before) shown) w fault → Faulted start v input shown w fault
 faulted_shown start v w input fault before shown none f = subst (λ (b : List Output). Faulted start v input (drop (length b) shown) w fault) none f
+
+-- each message among outputs may be said, where what stands anywhere among them may
+all_said : (said : Message → Type 0) (before outputs : List Output)
+    → ((message : Message) (first rest : List Output) → before ++ outputs ≡ first ++ Send message ∷ rest → ∥ said message ∥₁) → AllByRecursion (IsSaid said) outputs
+all_said said before [] says = tt
+all_said said before (Send message ∷ outputs) says =
+    (says message before outputs refl, all_said said (before ++ Send message ∷ []) outputs (λ m first rest is. says m first rest (sym (append_assoc before (Send message ∷ []) outputs) ∙ is)))
+all_said said before (Tell note ∷ outputs) says =
+    (tt, all_said said (before ++ Tell note ∷ []) outputs (λ m first rest is. says m first rest (sym (append_assoc before (Tell note ∷ []) outputs) ∙ is)))
+
+-- what a stored turn shows is released by its entry
+added_said : (said : Message → Type 0) (start : World) (v w : View) (input : Input) (outputs : List Output)
+    → ((message : Message) → IsReleased start message → ∥ said message ∥₁) → Adds start v input Stored outputs w → AllByRecursion (IsSaid said) outputs
+added_said said start v w input outputs says a =
+    let e = a.1 in
+    let history : List Entry = v.front ++ a.0 in
+    let legal : IsLegal start (history ++ e ∷ []) = subst (IsLegal start) a.2 a.3 in
+    all_said said [] outputs (λ m first rest is. says m (record {
+      earlier = history;
+      entry = e;
+      legal = legal;
+      stored = a.7;
+      before = first;
+      after = rest;
+      among = a.8 ∙ is;
+    }))
+
+-- where nothing was shown before, all that is shown may be said
+pub shown_said : (said : Message → Type 0) (start : World) (v w : View) (input : Input) (before shown : List Output)
+    → ((message : Message) → IsReleased start message → ∥ said message ∥₁) → before ≡ [] → Adds start v input Stored (drop (length before) shown) w
+    → AllByRecursion (IsSaid said) shown
+shown_said said start v w input before shown says none a =
+    added_said said start v w input shown says (subst (λ (b : List Output). Adds start v input Stored (drop (length b) shown) w) none a)

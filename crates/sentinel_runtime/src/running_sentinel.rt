@@ -4,7 +4,9 @@ ghost use Rattle.std.specs.Prelude.{◌≡◌, ◌+◌, ◌++◌, ◌<◌, ◌�
 ghost use Rattle.std.specs.List.{AllByRecursion};
 ghost use Rattle.ballot_law.specs.Messages.{sent};
 ghost use Rattle.boxed_nodes.specs.Sendable.{IsSendableOutput};
+ghost use Rattle.ballot_law.specs.declared.messages.Message.{Message};
 ghost use Rattle.sentinel_runtime.specs.Running.{input_of, phase_of, IsLeftByTurns};
+ghost use Rattle.sentinel_runtime.specs.Saying.{IsReleased, IsSaid};
 ghost use Rattle.sentinel_runtime.specs.declared.news.TheConstants.{EVENTS_MAX, WAITING_MAX};
 ghost use Rattle.courteous_sessions.specs.Clients.{informed, Takes, NotifiesClient};
 ghost use Rattle.sentinel_cell.specs.declared.entry.Outcome.TheVariants.{Stored};
@@ -38,17 +40,22 @@ use std::sync::{Mutex, Wait};
 /// What stands for no reading of the clock: it is above each of them.
 const NOT_TILTED: u64 = u64::MAX;
 
-/// Which Sentinel it is. Only proofs read it.
+/// Which Sentinel it is, and what may be said in its name. Only proofs read it.
 pub trait Which {
     ghost use Rattle.atomic_table.specs.Seated.{TableId};
+    ghost use Rattle.ballot_law.specs.declared.messages.Message.{Message};
 
     ghost cell: { TableId };
+
+    ghost said: { Message → Type 0 };
 }
 
 impl Which for Brand {
     ghost use Rattle.std.specs.Prelude.{[]};
 
     ghost cell = { record { words = 0; slots = 0; views_name = 0; atom = 0; block = 0; offset = 0; slot_names = [] } };
+
+    ghost said = { λ message. Unit {0} };
 }
 
 /// A Sentinel of the group, which its threads share. `far` is the last request for a vote whose epoch was too far above
@@ -66,6 +73,7 @@ pub struct RunningSentinel<J: Which, S: ConfStore> {
     tilted: AtomicU64,
     of: PhantomData<J>,
     ghost is: { cell.id ≡ J.cell },
+    ghost says: { (message : Message) → IsReleased cell.start message → ∥ J.said message ∥₁ },
 }
 
 /// A thread's seat of that Sentinel, with the thread's own room for outputs.
@@ -132,7 +140,7 @@ impl<J: Which> ThreadSeat<J> {
 
 impl<J: Which, S: ConfStore> RunningSentinel<J, S> {
     /// The Sentinel at this place of the roster, with its first seat. Its clients come to this port, which so many
-    /// threads serve.
+    /// threads serve. What its stored entries release may be said in its name.
     pub fn with_seat(
         alloc: Global,
         cell: SharedSentinel<S>,
@@ -144,6 +152,7 @@ impl<J: Which, S: ConfStore> RunningSentinel<J, S> {
     where
         S: Drop,
         requires named { (cell.id ≡ J.cell) × (seat.cell ≡ J.cell) }
+        requires says { (message : Message) → IsReleased cell.start message → ∥ J.said message ∥₁ }
         ensures seat { IfOk result (λ r. r.1.seat ≡ seat) }
         ensures cell { IfOk result (λ r. (r.0.cell ≡ cell) × (r.0.place ≡ place)) }
         ensures news { IfOk result (λ r. length r.0.news.lists.items ≡ port_threads) }
@@ -237,6 +246,7 @@ impl<J: Which, S: ConfStore> RunningSentinel<J, S> {
     ) -> Result<u64, ActFault>
         requires within { IsWithinEvent input.now.event }
         ensures sendable { OnOk result (AllByRecursion IsSendableOutput seat.new.outbox.shown) }
+        ensures said { OnOk result (AllByRecursion (IsSaid J.said) seat.new.outbox.shown) }
         ensures added { IfOk result (λ entry. Adds self.now.cell.start seat.old.seat.view input.entry.now Stored seat.new.outbox.shown seat.new.seat.view
             × (entry + 1 ≡ length seat.new.seat.view.front)) }
         ensures fault { IfErr result (λ fault. Faulted self.now.cell.start seat.old.seat.view input.entry.now seat.new.outbox.shown seat.new.seat.view fault) }
@@ -251,7 +261,7 @@ impl<J: Which, S: ConfStore> RunningSentinel<J, S> {
 
     /// One input at a reading of the clock in milliseconds. What the Sentinel says, once it is stored, goes to the
     /// outlet, and what it notes to the log and to the subscribers of its port. At a fault it says nothing.
-    pub fn carry_out<O: Outlet, R: Wait + Log>(
+    pub fn carry_out<O: Outlet<J>, R: Wait + Log>(
         &self,
         rt: &R,
         seat: &mut ThreadSeat<J>,
@@ -270,7 +280,7 @@ impl<J: Which, S: ConfStore> RunningSentinel<J, S> {
         self.settle(&mut seat.sight, now);
         self.note_tilt(seat.sight.is_tilted(), now);
         let outputs = seat.outbox.outputs();
-        send_all(outlet, outputs);
+        send_all::<J, O>(outlet, outputs);
         tell_all(
             &self.announcing(rt),
             self.roster(),

@@ -112,7 +112,7 @@ impl Ticker {
 
     /// Ticks each master once, where that is due: whether the Sentinel goes on. What it says goes to the outlet.
     #[tactic(auto, using(crate::proofs::Hearing::tick_waits, crate::proofs::Hearing::tick_comes))]
-    pub fn tick<J: Which, S: ConfStore, O: Outlet, R: Wait + Clock + Log>(
+    pub fn tick<J: Which, S: ConfStore, O: Outlet<J>, R: Wait + Clock + Log>(
         &mut self,
         rt: &R,
         state: &RunState,
@@ -136,7 +136,7 @@ impl Ticker {
     /// Ticks each master once, in their order, up to one whose tick halts the Sentinel: whether the Sentinel goes on.
     /// What it says goes to the outlet.
     #[tactic(auto, using(crate::proofs::Hearing::ticks_more, crate::proofs::Hearing::ticks_stop, crate::proofs::Hearing::ticks_none))]
-    pub fn tick_all<J: Which, S: ConfStore, O: Outlet, R: Wait + Clock + Log>(
+    pub fn tick_all<J: Which, S: ConfStore, O: Outlet<J>, R: Wait + Clock + Log>(
         &mut self,
         rt: &R,
         state: &RunState,
@@ -158,7 +158,7 @@ impl Ticker {
 
     /// Ticks one master: whether the Sentinel goes on. The random number of a tick is the part of a second that the
     /// clock shows, in nanoseconds, which differs from tick to tick and from Sentinel to Sentinel.
-    fn tick_one<J: Which, S: ConfStore, O: Outlet, R: Wait + Clock + Log>(
+    fn tick_one<J: Which, S: ConfStore, O: Outlet<J>, R: Wait + Clock + Log>(
         &mut self,
         rt: &R,
         state: &RunState,
@@ -180,7 +180,7 @@ impl Ticker {
 }
 
 /// Has the Sentinel take what was heard for it: whether it goes on. What it says goes to the outlet.
-pub fn hear<J: Which, S: ConfStore, O: Outlet, R: Wait + Clock + Log>(
+pub fn hear<J: Which, S: ConfStore, O: Outlet<J>, R: Wait + Clock + Log>(
     rt: &R,
     state: &RunState,
     member: &RunningSentinel<J, S>,

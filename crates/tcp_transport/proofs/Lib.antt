@@ -1,3 +1,4 @@
 pub mod Hearing
 pub mod Replicas
 pub mod Sending
+pub mod Speech

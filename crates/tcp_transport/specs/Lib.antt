@@ -1,4 +1,5 @@
 pub mod Hearing
 pub mod Logins
 pub mod Replicas
+pub mod Said
 pub mod Traffic

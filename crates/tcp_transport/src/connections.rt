@@ -11,11 +11,13 @@ use crate::peer_connection::PeerConnection;
 use crate::roster_rows::RowNotes;
 use crate::traffic::PIECE;
 use ballot_law::{Body, Event, Message, NodeName, Roster};
-use links::{Login, RecentFaults, TickSchedule, connection_count, ping_each, place_of, target_at};
+use links::{
+    Login, RecentFaults, Target, TickSchedule, connection_count, ping_each, place_of, target_at,
+};
 use log::Log;
 use mio::{Events, Poll, Token};
 use sentinel_conf::Conf;
-use sentinel_runtime::RunFault;
+use sentinel_runtime::{RunFault, Which};
 use std::alloc::{AllocError, Global};
 use std::io::{self, ErrorKind};
 use std::net::Net;
@@ -38,29 +40,68 @@ const REST_MS: u64 = 5;
 /// How many messages are put out before the connections are heard again.
 const MESSAGES_MAX: u32 = 1_024;
 
-/// The connections of one Sentinel, each at its place (`target_at`); its own place has none.
+/// A connection that is to be: to which node, and how long it is between two PINGs.
+#[derive(Clone, Copy)]
+struct PlannedWire {
+    target: Target,
+    ping_each: u64,
+}
+
+/// The connections of one Sentinel before its threads run, none of which is open.
 #[derive(Drop)]
-pub struct Connections {
+pub struct PlannedConnections {
     poll: Poll,
     told: Events<Global>,
-    wires: Vec<Option<PeerConnection>>,
+    plans: Vec<Option<PlannedWire>>,
     roster: Roster,
     logins: Logins,
-    near: TransportEnd,
+    epoch: u64,
+    room: Vec<u8>,
+    alloc: Global,
+}
+
+/// The connections of one Sentinel, each at its place (`target_at`); its own place has none. Nothing goes out on them
+/// but what the Sentinel may say.
+#[derive(Drop)]
+pub struct Connections<J: Which> {
+    poll: Poll,
+    told: Events<Global>,
+    wires: Vec<Option<PeerConnection<J>>>,
+    roster: Roster,
+    logins: Logins,
+    near: TransportEnd<J>,
     faults: RecentFaults,
     rows: RowNotes,
     room: Vec<u8>,
     alloc: Global,
 }
 
-/// The connections of the Sentinel of this conf, none of which is open.
-fn wires_of(alloc: Global, conf: &Conf) -> Result<Vec<Option<PeerConnection>>, AllocError> {
-    let mut wires = Vec::new(alloc);
+/// The connections that the Sentinel of this conf is to have.
+fn plans_of(alloc: Global, conf: &Conf) -> Result<Vec<Option<PlannedWire>>, AllocError> {
+    let mut plans = Vec::new(alloc);
     for place in 0..connection_count(conf.roster()) {
         match target_at(conf.roster(), conf.place(), place) {
             Some(target) => {
                 let ping_each = pings_of(conf, target.node);
-                wires.push(Some(PeerConnection::new(alloc, target, ping_each)))?;
+                plans.push(Some(PlannedWire { target, ping_each }))?;
+            }
+            None => plans.push(None)?,
+        }
+    }
+    Ok(plans)
+}
+
+/// These connections, none of which is open.
+fn wires_of<J: Which>(
+    alloc: Global,
+    plans: &[Option<PlannedWire>],
+) -> Result<Vec<Option<PeerConnection<J>>>, AllocError> {
+    let mut wires = Vec::new(alloc);
+    for plan in plans {
+        match plan {
+            Some(plan) => {
+                let wire = PeerConnection::<J>::new(alloc, plan.target, plan.ping_each);
+                wires.push(Some(wire))?;
             }
             None => wires.push(None)?,
         }
@@ -97,35 +138,60 @@ fn login_of<'a>(roster: &Roster, logins: &'a Logins, node: NodeName) -> Login<'a
     }
 }
 
-impl Connections {
-    /// The connections of the Sentinel of this conf, none of which is open, and the Sentinel's end of them. The error
-    /// is the system's; `OutOfMemory` is a refused allocation.
-    pub fn new<N: Net>(
+impl PlannedConnections {
+    /// The connections of the Sentinel of this conf. The error is the system's; `OutOfMemory` is a refused allocation.
+    pub fn of<N: Net>(
         net: &N,
         alloc: Global,
         conf: &Conf,
         logins: Logins,
-    ) -> io::Result<(Connections, SentinelEnd)> {
+    ) -> io::Result<PlannedConnections> {
         let Ok(roster) = conf.roster().copy(alloc) else {
             return Err(io::Error::from(ErrorKind::OutOfMemory));
         };
-        let poll = Poll::new(net)?;
-        let (near, far) = exchange(alloc, poll.registry(), conf.kept().current)?;
+        Ok(PlannedConnections {
+            poll: Poll::new(net)?,
+            told: Events::with_capacity(alloc, EVENTS)?,
+            plans: plans_of(alloc, conf)?,
+            roster,
+            logins,
+            epoch: conf.kept().current,
+            room: vec![in alloc; 0; PIECE]?,
+            alloc,
+        })
+    }
+
+    /// They are those of this Sentinel: they, and the Sentinel's end of them. The error is the system's; `OutOfMemory`
+    /// is a refused allocation.
+    pub fn named<J: Which>(self) -> io::Result<(Connections<J>, SentinelEnd<J>)> {
+        let PlannedConnections {
+            poll,
+            told,
+            plans,
+            roster,
+            logins,
+            epoch,
+            room,
+            alloc,
+        } = self;
+        let (near, far) = exchange::<J>(alloc, poll.registry(), epoch)?;
         let wires = Connections {
             poll,
-            told: Events::with_capacity(alloc, EVENTS)?,
-            wires: wires_of(alloc, conf)?,
+            told,
+            wires: wires_of(alloc, plans.as_slice())?,
             roster,
             logins,
             near,
             faults: RecentFaults::new(alloc),
             rows: RowNotes::new(),
-            room: vec![in alloc; 0; PIECE]?,
+            room,
             alloc,
         };
         Ok((wires, far))
     }
+}
 
+impl<J: Which> Connections<J> {
     /// Closes connections of no use, opens those that are due, asks what they ask by themselves, and tells the Sentinel
     /// which were lost, at this reading of the clock.
     fn keep_all<R: Wait, N: Net>(&mut self, rt: &R, net: &N, now: u64) {
@@ -247,15 +313,14 @@ impl Connections {
 
     /// Puts out a message on the connection to its target, and sends what can be sent at once. It is lost where that
     /// isn't open, and where no connection is to the target.
-    fn put_out(&mut self, outgoing: &Outgoing, now: u64) {
-        let message = outgoing.message();
-        let target = message.target;
+    fn put_out(&mut self, outgoing: &Outgoing<J>, now: u64) {
+        let target = outgoing.message().target;
         let Some(place) = place_of(&self.roster, target) else {
             return;
         };
         if let Some(Some(wire)) = self.wires.get_mut(place) {
             if wire.takes(target) {
-                wire.ask(message, now);
+                wire.ask(outgoing, now);
             }
         }
     }

@@ -14,7 +14,7 @@ use sentinel_conf::ConfStore;
 use sentinel_runtime::{Outlet, RunState, RunningSentinel, Which};
 use std::alloc::Global;
 use std::io;
-use std::marker::Model;
+use std::marker::{Model, PhantomData};
 use std::rt::Clock;
 use std::sync::Wait;
 use std::sync::atomic::AtomicU64;
@@ -34,13 +34,14 @@ pub struct WatchState {
     pub ending: AtomicU64,
 }
 
-/// A message that is to go out, which can be written. Contracts see the message.
+/// A message that is to go out: it can be written, and may be said in the Sentinel's name. Contracts see the message.
 #[derive(Drop)]
-pub(crate) struct Outgoing {
+pub(crate) struct Outgoing<J: Which> {
     message: Message,
+    of: PhantomData<J>,
 }
 
-impl Model for Outgoing {
+impl<J: Which> Model for Outgoing<J> {
     ghost use Rattle.ballot_law.specs.declared.messages.Message.{Message};
     ghost use Rattle.node_texts.specs.Messages.MessageTexts.{IsWritable};
 
@@ -48,21 +49,26 @@ impl Model for Outgoing {
 
     ghost view = { λ outgoing. outgoing.message };
 
-    ghost invariant = { λ outgoing. IsWritable outgoing.message.body };
+    ghost invariant = { λ outgoing. IsWritable outgoing.message.body × ∥ J.said outgoing.message ∥₁ };
 }
 
-impl Outgoing {
+impl<J: Which> Outgoing<J> {
     /// This message.
-    fn of(message: Message) -> Outgoing
-        requires { IsWritable message.body }
+    fn of(message: Message) -> Outgoing<J>
+        requires writable { IsWritable message.body }
+        requires said { ∥ J.said message ∥₁ }
         ensures { result ≡ message }
     {
-        Outgoing { message }
+        Outgoing {
+            message,
+            of: PhantomData,
+        }
     }
 
     /// The message.
     pub(crate) fn message(&self) -> &Message
         ensures writable { IsWritable result.now.body }
+        ensures said { ∥ J.said result.now ∥₁ }
         ensures message { result.now ≡ self.now }
     {
         &self.message
@@ -108,8 +114,8 @@ impl Hearing {
 /// The end of the connections: the messages that are to go out, and where what they hear goes. `hellos` are those that
 /// were heard last.
 #[derive(Drop)]
-pub(crate) struct TransportEnd {
-    messages: Receiver<Outgoing>,
+pub(crate) struct TransportEnd<J: Which> {
+    messages: Receiver<Outgoing<J>>,
     heard: Sender<Hearing>,
     hellos: HelloDedup,
 }
@@ -117,10 +123,10 @@ pub(crate) struct TransportEnd {
 /// The end of the Sentinel: what the connections hear, and where its messages go. `epoch` is the current one of the
 /// Sentinel's file at its start.
 #[derive(Drop)]
-pub struct SentinelEnd {
+pub struct SentinelEnd<J: Which> {
     epoch: u64,
     heard: Receiver<Hearing>,
-    messages: Sender<Outgoing>,
+    messages: Sender<Outgoing<J>>,
     waker: Waker,
     alloc: Global,
 }
@@ -130,11 +136,11 @@ const WAKER: Token = Token(usize::MAX);
 
 /// Both ends, between which nothing is under way, of a Sentinel whose current epoch at its start is this one; a message
 /// that goes out ends the wait of this registry's poll. The error is the system's, or a refused allocation.
-pub(crate) fn exchange(
+pub(crate) fn exchange<J: Which>(
     alloc: Global,
     registry: &Registry,
     epoch: u64,
-) -> io::Result<(TransportEnd, SentinelEnd)> {
+) -> io::Result<(TransportEnd<J>, SentinelEnd<J>)> {
     let waker = Waker::new(registry, WAKER)?;
     let (to_wires, messages) = unbounded(alloc)?;
     let (to_sentinel, heard) = unbounded(alloc)?;
@@ -153,9 +159,9 @@ pub(crate) fn exchange(
     Ok((near, far))
 }
 
-impl TransportEnd {
+impl<J: Which> TransportEnd<J> {
     /// The next message that is to go out; none where none waits.
-    pub(crate) fn next<R: Wait>(&self, rt: &R) -> Option<Outgoing> {
+    pub(crate) fn next<R: Wait>(&self, rt: &R) -> Option<Outgoing<J>> {
         self.messages.try_recv(rt).ok()
     }
 
@@ -175,10 +181,10 @@ impl TransportEnd {
     }
 }
 
-impl SentinelEnd {
+impl<J: Which> SentinelEnd<J> {
     /// Has this Sentinel, of whose start this end is, take requests for votes in epochs that are too far above its own
     /// one as those of epoch 0: `RunningSentinel::guard_epochs`. Hellos with such epochs are lost from then on.
-    pub fn guard<J: Which, S: ConfStore>(&self, member: &RunningSentinel<J, S>) {
+    pub fn guard<S: ConfStore>(&self, member: &RunningSentinel<J, S>) {
         member.guard_epochs(self.epoch);
     }
 
@@ -198,7 +204,7 @@ impl SentinelEnd {
     }
 
     /// The connections as the place where messages go.
-    pub(crate) fn outlet<'a, R: Wait>(&'a self, rt: &'a R) -> WireOutlet<'a, R> {
+    pub(crate) fn outlet<'a, R: Wait>(&'a self, rt: &'a R) -> WireOutlet<'a, J, R> {
         WireOutlet { end: self, rt }
     }
 }
@@ -207,12 +213,12 @@ impl SentinelEnd {
 /// connection takes it, and where there is no memory. Where one waits already, the thread of the connections was woken
 /// for that, and takes this one too.
 #[derive(Clone, Copy)]
-pub(crate) struct WireOutlet<'a, R: Wait> {
-    end: &'a SentinelEnd,
+pub(crate) struct WireOutlet<'a, J: Which, R: Wait> {
+    end: &'a SentinelEnd<J>,
     rt: &'a R,
 }
 
-impl<R: Wait> Outlet for WireOutlet<'_, R> {
+impl<J: Which, R: Wait> Outlet<J> for WireOutlet<'_, J, R> {
     fn send(&mut self, message: &Message) {
         if self.end.messages.len() >= WAITING_MAX {
             return;

@@ -2,7 +2,7 @@
 //!
 //! What is decided without a socket is in `links`, what is asked and heard on a connection in `links`. `Connections`
 //! are all connections, which one thread has; `TickLoop` are the ticks of the Sentinel and what it hears, which another
-//! has, so that a store doesn't stop the connections. Their ends are made together, by `Connections::new`.
+//! has, so that a store doesn't stop the connections. Their ends are made together, by `PlannedConnections::named`.
 #![tactic(auto)]
 
 mod connections;
@@ -14,10 +14,11 @@ mod logins;
 mod peer_connection;
 mod replica_notes;
 mod roster_rows;
+mod said_link;
 mod tick_loop;
 mod traffic;
 
-pub use connections::Connections;
+pub use connections::{Connections, PlannedConnections};
 pub use exchange::{SentinelEnd, WatchState};
 pub use logins::Logins;
 pub use tick_loop::TickLoop;

@@ -2,19 +2,18 @@
 
 ghost use Rattle.std.specs.Prelude.{◌≡◌, ◌↔◌, IsTrue, false};
 ghost use Rattle.std.specs.List.{AllByRecursion};
-ghost use Rattle.node_texts.specs.Messages.MessageTexts.{IsWritable};
 ghost use Rattle.ballot_law.specs.Limits.{IsWithinEvent};
 
-use crate::exchange::TransportEnd;
+use crate::exchange::{Outgoing, TransportEnd};
 use crate::roster_rows::{RowHeard, RowLook};
+use crate::said_link::SaidLink;
 use crate::traffic::{Unheard, hear, send};
-use ballot_law::{Addr, Body, Event, Message, NodeName, Roster};
-use links::{
-    FLOW_MS, LinkFault, Login, NodeLink, RateLimit, Stage, Target, is_refusal, wants_login,
-};
+use ballot_law::{Addr, Body, Event, NodeName, Roster};
+use links::{FLOW_MS, LinkFault, Login, RateLimit, Stage, Target, is_refusal, wants_login};
 use log::{Log, warn};
 use mio::net::TcpStream;
 use mio::{Interest, Registry, Token};
+use sentinel_runtime::Which;
 use std::alloc::Global;
 use std::io::ErrorKind;
 use std::net::{Ipv4Addr, Net, SocketAddr};
@@ -40,8 +39,8 @@ const ACKS_MS: u64 = 2_500;
 /// lost since it was open last, `rows` what it asks another Sentinel for its rows, `acks_until` until when its node is
 /// asked to acknowledge its master's stream.
 #[derive(Drop)]
-pub(crate) struct PeerConnection {
-    link: NodeLink,
+pub(crate) struct PeerConnection<J: Which> {
+    link: SaidLink<J>,
     stream: Option<TcpStream>,
     goes_on: bool,
     is_ending: bool,
@@ -82,7 +81,12 @@ fn is_connected(stream: &TcpStream) -> Option<bool> {
 }
 
 /// Hands these events on to the Sentinel, in their order. They are those of one read, so there are few.
-fn hand_on_all<R: Wait>(rt: &R, near: &mut TransportEnd, mut events: Vec<Event>, now: u64)
+fn hand_on_all<J: Which, R: Wait>(
+    rt: &R,
+    near: &mut TransportEnd<J>,
+    mut events: Vec<Event>,
+    now: u64,
+)
     requires { AllByRecursion IsWithinEvent events.items }
 {
     while !events.is_empty() {
@@ -106,11 +110,11 @@ fn error_in(piece: &[u8]) -> &str {
     "an error"
 }
 
-impl PeerConnection {
+impl<J: Which> PeerConnection<J> {
     /// A connection that isn't open, and is to be opened at once, with so many milliseconds between two PINGs.
-    pub(crate) fn new(alloc: Global, target: Target, ping_each: u64) -> PeerConnection {
+    pub(crate) fn new(alloc: Global, target: Target, ping_each: u64) -> PeerConnection<J> {
         PeerConnection {
-            link: NodeLink::new(alloc, target, ping_each),
+            link: SaidLink::new(alloc, target, ping_each),
             stream: None,
             goes_on: false,
             is_ending: false,
@@ -218,7 +222,7 @@ impl PeerConnection {
         login: Login<'_>,
         now: u64,
     ) {
-        if self.link.stale(now).is_some() {
+        if self.link.as_link().stale(now).is_some() {
             self.link.close(now);
             self.settle();
         }
@@ -276,22 +280,30 @@ impl PeerConnection {
         self.acks_until = now.saturating_add(ACKS_MS);
     }
 
-    /// Puts out a message where it is open, and sends what it can; else the message is lost, and so is a PING where the
-    /// connection has sent one a moment ago. What came of an order to follow a master, or none, is asked soon. A fault
-    /// has closed it.
-    pub(crate) fn ask(&mut self, message: &Message, now: u64)
-        requires writable { IsWritable message.now.body }
-        requires target { (self.old.link.target.node ≡ message.now.target) × (self.old.link.target.listens ≡ false) }
+    /// Asks its node to acknowledge its master's stream, where it is asked for INFO and a master hands over to it. A
+    /// fault has closed it.
+    fn ask_ack(&mut self, body: &Body, now: u64)
+        ensures { self.new.link.target ≡ self.old.link.target }
     {
-        if let Body::Ping = message.body {
-            return self.ask_due(now);
-        }
-        if let Body::InfoAsk = message.body {
+        if let Body::InfoAsk = body {
             if now < self.acks_until {
                 let _ = self.link.ask_ack(now);
             }
         }
-        let _ = self.link.ask(message, now);
+    }
+
+    /// Puts out a message where it is open, and sends what it can; else the message is lost, and so is a PING where the
+    /// connection has sent one a moment ago. What came of an order to follow a master, or none, is asked soon. A fault
+    /// has closed it.
+    pub(crate) fn ask(&mut self, outgoing: &Outgoing<J>, now: u64)
+        requires { (self.old.link.target.node ≡ outgoing.now.target) × (self.old.link.target.listens ≡ false) }
+    {
+        let message = outgoing.message();
+        if let Body::Ping = message.body {
+            return self.ask_due(now);
+        }
+        self.ask_ack(&message.body, now);
+        let _ = self.link.ask(outgoing, now);
         if let Body::ReplicaOf(_) = message.body {
             self.look_at = Some(now.saturating_add(LOOK_MS));
         }
@@ -357,7 +369,7 @@ impl PeerConnection {
     fn read_once<R: Wait + Log>(
         &mut self,
         rt: &R,
-        near: &mut TransportEnd,
+        near: &mut TransportEnd<J>,
         room: &mut [u8],
         now: u64,
     ) -> Result<usize, ErrorKind> {
@@ -398,7 +410,7 @@ impl PeerConnection {
     fn read_in<R: Wait + Log>(
         &mut self,
         rt: &R,
-        near: &mut TransportEnd,
+        near: &mut TransportEnd<J>,
         room: &mut [u8],
         now: u64,
     ) -> bool {
@@ -436,7 +448,7 @@ impl PeerConnection {
     pub(crate) fn serve<R: Wait + Log>(
         &mut self,
         rt: &R,
-        near: &mut TransportEnd,
+        near: &mut TransportEnd<J>,
         room: &mut [u8],
         now: u64,
     ) {

@@ -36,8 +36,8 @@ const WAIT_MAX_MS: u64 = 100;
 /// `stood_still` is whether it stood still since its last ticks, and `later` has what it hears only after the next
 /// ones, oldest first; `has_ticked` is whether these were since.
 #[derive(Drop)]
-pub struct TickLoop {
-    far: SentinelEnd,
+pub struct TickLoop<J: Which> {
+    far: SentinelEnd<J>,
     ticker: Ticker,
     pace: TickSchedule,
     stood_still: bool,
@@ -83,7 +83,7 @@ fn without_name(alloc: Global, event: Event) -> Event
 
 /// Has the Sentinel take an event, which comes with the epoch that is known, unless it is lost before the Sentinel
 /// hears it: whether it goes on.
-fn hear_near<J: Which, S: ConfStore, O: Outlet, R: Wait + Clock + Log>(
+fn hear_near<J: Which, S: ConfStore, O: Outlet<J>, R: Wait + Clock + Log>(
     rt: &R,
     state: &WatchState,
     member: &RunningSentinel<J, S>,
@@ -118,14 +118,14 @@ fn lot<R: Clock>(rt: &R, state: &WatchState) -> u64 {
     u64::from(state.run.clock.elapsed(rt).subsec_nanos())
 }
 
-impl TickLoop {
+impl<J: Which> TickLoop<J> {
     /// Nothing was heard yet at this reading of the clock, and the ticks are due at once.
-    pub fn new<J: Which, S: ConfStore>(
+    pub fn new<S: ConfStore>(
         alloc: Global,
         member: &RunningSentinel<J, S>,
-        far: SentinelEnd,
+        far: SentinelEnd<J>,
         now: u64,
-    ) -> TickLoop {
+    ) -> TickLoop<J> {
         TickLoop {
             far,
             ticker: Ticker::new(member),
@@ -140,7 +140,7 @@ impl TickLoop {
 
     /// Holds the ticks back where a campaign has come near, until the Sentinel has its turn: that goes by its place,
     /// and moves on with each configuration of the master.
-    fn hold<J: Which, S: ConfStore, R: Clock>(
+    fn hold<S: ConfStore, R: Clock>(
         &mut self,
         rt: &R,
         state: &WatchState,
@@ -169,7 +169,7 @@ impl TickLoop {
     }
 
     /// Has the Sentinel take an event: whether it goes on. An answer may bring a campaign near.
-    fn hear_one<J: Which, S: ConfStore, R: Wait + Clock + Log>(
+    fn hear_one<S: ConfStore, R: Wait + Clock + Log>(
         &mut self,
         rt: &R,
         state: &WatchState,
@@ -193,7 +193,7 @@ impl TickLoop {
 
     /// Has the Sentinel take an event, or keeps it for later, where ticks are late and it may be stored: whether it
     /// goes on. It is lost where too many are kept.
-    fn hear_or_keep<J: Which, S: ConfStore, R: Wait + Clock + Log>(
+    fn hear_or_keep<S: ConfStore, R: Wait + Clock + Log>(
         &mut self,
         rt: &R,
         state: &WatchState,
@@ -213,7 +213,7 @@ impl TickLoop {
     }
 
     /// Has the Sentinel take what it kept for later, once it has ticked or ticks aren't late: whether it goes on.
-    fn hear_kept<J: Which, S: ConfStore, R: Wait + Clock + Log>(
+    fn hear_kept<S: ConfStore, R: Wait + Clock + Log>(
         &mut self,
         rt: &R,
         state: &WatchState,
@@ -238,7 +238,7 @@ impl TickLoop {
 
     /// Has the Sentinel take what its connections heard: it waits for the first event so many milliseconds at most, and
     /// for no other: whether it goes on.
-    fn hear_all<J: Which, S: ConfStore, R: Wait + Clock + Log>(
+    fn hear_all<S: ConfStore, R: Wait + Clock + Log>(
         &mut self,
         rt: &R,
         state: &WatchState,
@@ -274,7 +274,7 @@ impl TickLoop {
     }
 
     /// Hears until the ticks are due, which may come to be later meanwhile: whether it goes on.
-    fn hear_until_due<J: Which, S: ConfStore, R: Wait + Clock + Log>(
+    fn hear_until_due<S: ConfStore, R: Wait + Clock + Log>(
         &mut self,
         rt: &R,
         state: &WatchState,
@@ -295,7 +295,7 @@ impl TickLoop {
     }
 
     /// Ticks each master, and plans the next ticks: whether the Sentinel goes on.
-    fn tick<J: Which, S: ConfStore, R: Wait + Clock + Log>(
+    fn tick<S: ConfStore, R: Wait + Clock + Log>(
         &mut self,
         rt: &R,
         state: &WatchState,
@@ -327,7 +327,7 @@ impl TickLoop {
     /// Hears until the next ticks are due, and ticks each master: whether the Sentinel goes on. Where it or its
     /// connections stood still, it hears what was asked anew before it ticks. It does so once: on a machine that is
     /// always late it would never tick else.
-    fn turn<J: Which, S: ConfStore, R: Wait + Clock + Log>(
+    fn turn<S: ConfStore, R: Wait + Clock + Log>(
         &mut self,
         rt: &R,
         state: &WatchState,
@@ -348,7 +348,7 @@ impl TickLoop {
 
     /// Has the Sentinel take what its connections hear, and ticks each master 50 to 100 ms after its last tick, or 20
     /// while a switch is under way, until the threads end or the Sentinel is halted, by whichever thread.
-    pub fn run<J: Which, S: ConfStore, R: Wait + Clock + Log>(
+    pub fn run<S: ConfStore, R: Wait + Clock + Log>(
         &mut self,
         rt: &R,
         state: &WatchState,

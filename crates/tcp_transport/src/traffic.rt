@@ -5,10 +5,13 @@ ghost use Rattle.std.specs.Io.KnownBytes.{Consumes};
 ghost use Rattle.std.specs.List.{AllByRecursion};
 ghost use Rattle.ballot_law.specs.declared.events.Event.{Event};
 ghost use Rattle.links.specs.NodeLinks.{IsHeardOn};
+ghost use Rattle.tcp_transport.specs.Said.{SendsSaid};
 ghost use Rattle.tcp_transport.specs.Traffic.{Sends, Hears, IsWhy};
 
+use crate::said_link::SaidLink;
 use ballot_law::Event;
-use links::{LinkFault, NodeLink};
+use links::LinkFault;
+use sentinel_runtime::Which;
 use std::io::{ErrorKind, Read, Write};
 
 /// How many bytes one read asks for.
@@ -25,10 +28,10 @@ pub(crate) enum Unheard {
 
 /// Writes once of what is unsent; the error says why nothing was taken.
 #[tactic(auto, using(crate::proofs::Sending::sends_nothing, crate::proofs::Sending::sends_some))]
-fn write<T: Write>(link: &mut NodeLink, stream: &mut T) -> Result<(), ErrorKind>
+fn write<J: Which, T: Write>(link: &mut SaidLink<J>, stream: &mut T) -> Result<(), ErrorKind>
     ensures sent { Sends (T.contents stream.old) (T.contents stream.new) link.old link.new }
 {
-    match stream.write(link.unsent()) {
+    match stream.write(link.as_link().unsent()) {
         Ok(0) => Err(ErrorKind::WriteZero),
         Ok(count) => {
             link.sent(count);
@@ -41,11 +44,11 @@ fn write<T: Write>(link: &mut NodeLink, stream: &mut T) -> Result<(), ErrorKind>
 /// Writes what is unsent until it would wait: whether the stream is whole. What the stream gets is what was taken away
 /// of the front.
 #[tactic(auto, using(crate::proofs::Sending::sends_none, crate::proofs::Sending::sends_twice))]
-pub(crate) fn send<T: Write>(link: &mut NodeLink, stream: &mut T) -> bool
+fn send_unsent<J: Which, T: Write>(link: &mut SaidLink<J>, stream: &mut T) -> bool
     ensures sent { Sends (T.contents stream.old) (T.contents stream.new) link.old link.new }
 {
     for _ in 0..u64::MAX {
-        if link.unsent().is_empty() {
+        if link.as_link().unsent().is_empty() {
             return true;
         }
         match write(link, stream) {
@@ -55,6 +58,17 @@ pub(crate) fn send<T: Write>(link: &mut NodeLink, stream: &mut T) -> bool
         }
     }
     true
+}
+
+/// Writes what is unsent until it would wait: whether the stream is whole. What the stream gets is what was taken away
+/// of the front, and stands in what may be said on this connection.
+#[tactic(auto, using(crate::proofs::Speech::sends_said))]
+pub(crate) fn send<J: Which, T: Write>(link: &mut SaidLink<J>, stream: &mut T) -> bool
+    ensures sent { Sends (T.contents stream.old) (T.contents stream.new) link.old link.new }
+    ensures said { SendsSaid J.said link.old.target (T.contents stream.old) (T.contents stream.new) }
+{
+    link.speaks();
+    send_unsent(link, stream)
 }
 
 /// Reads one piece into the room: how long it is, or why none came, `UnexpectedEof` at the end of the stream.
@@ -72,8 +86,8 @@ fn read<T: Read>(stream: &mut T, room: &mut [u8]) -> Result<usize, ErrorKind>
 /// Reads one piece, and adds what the values tell that are whole with it: how long it is. The error says why none was
 /// taken; what the values before a fault told was added.
 #[tactic(auto, using(crate::proofs::Hearing::heard, crate::proofs::Hearing::broken, crate::proofs::Hearing::no_more))]
-pub(crate) fn hear<T: Read>(
-    link: &mut NodeLink,
+pub(crate) fn hear<J: Which, T: Read>(
+    link: &mut SaidLink<J>,
     stream: &mut T,
     room: &mut [u8],
     now: u64,

@@ -2,11 +2,13 @@
 
 ghost use Rattle.std.specs.Prelude.{Some};
 ghost use Rattle.boxed_nodes.specs.Sendable.{IsSendableOutput};
+ghost use Rattle.sentinel_runtime.specs.Saying.{IsSaid};
 
 use ballot_law::{Addr, Body, Card, Message, NodeName, Note, Output};
 use node_texts::copy_of;
-use sentinel_runtime::{Outlet, send_all};
+use sentinel_runtime::{Outlet, Which, send_all};
 use std::alloc::Global;
+use std::marker::Brand;
 use std::process::Abort;
 use std::test::Fail;
 
@@ -18,7 +20,7 @@ struct Recorder<R: Abort> {
     rt: R,
 }
 
-impl<R: Abort> Outlet for Recorder<R> {
+impl<J: Which, R: Abort> Outlet<J> for Recorder<R> {
     ghost use Rattle.std.specs.Prelude.{Some};
 
     ghost handed = { λ recorder. Some recorder.messages.items };
@@ -31,7 +33,8 @@ impl<R: Abort> Outlet for Recorder<R> {
 
 /// A PING of the first Sentinel.
 fn ping(target: NodeName) -> Output
-    ensures { IsSendableOutput result }
+    ensures sendable { IsSendableOutput result }
+    ensures said { IsSaid (λ message. Unit {0}) result }
 {
     Output::Send(Message {
         sender: NodeName::SentinelAt(0),
@@ -42,7 +45,8 @@ fn ping(target: NodeName) -> Output
 
 /// The note of a new address.
 fn note() -> Output
-    ensures { IsSendableOutput result }
+    ensures sendable { IsSendableOutput result }
+    ensures said { IsSaid (λ message. Unit {0}) result }
 {
     let old = Addr {
         ip: 2_130_706_433,
@@ -69,7 +73,7 @@ fn each_message_goes_out_once_in_order(rt: HostRuntime) -> Result<(), Fail> {
         alloc,
         rt,
     };
-    send_all(&mut recorder, &outputs);
+    send_all::<Brand, _>(&mut recorder, &outputs);
     assert_eq!(rt; recorder.messages.len(), 3);
     assert!(rt; recorder.messages[0].target == one);
     assert!(rt; recorder.messages[1].target == other);

@@ -1,5 +1,6 @@
+use Rattle.sentinel_runtime.specs.Saying.{IsReleased}
 use Rattle.sentinel_runner.proofs.watch.Watch.run.Given as goal
 
--- the Sentinel has its own cell for a name
+-- the Sentinel has its own cell for a name, and what its stored entries release may be said in it
 abbrev pub ghosts-run_named : goal.ghosts-run_named
-ghosts-run_named g a = record { cell = a.watching.opened.cell.id }
+ghosts-run_named g a = record { cell = a.watching.opened.cell.id; said = IsReleased a.watching.opened.cell.start }

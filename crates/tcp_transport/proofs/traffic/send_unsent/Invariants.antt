@@ -1,5 +1,5 @@
 use Rattle.tcp_transport.specs.Traffic.{Sends}
-use Rattle.tcp_transport.proofs.traffic.send.Given as goal
+use Rattle.tcp_transport.proofs.traffic.send_unsent.Given as goal
 
 -- what was written so far is what is gone of the front
 abbrev pub invariant-loop : goal.invariant-loop
