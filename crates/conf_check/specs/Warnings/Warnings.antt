@@ -5,7 +5,7 @@ use Rattle.ballot_law.specs.Cuts.{lines}
 use Rattle.sentinel_conf.specs.declared.watch.faults.WatchKind.{WatchKind}
 use Rattle.sentinel_conf.specs.declared.watch.faults.WatchKind.TheVariants as watch
 use Rattle.sentinel_conf.specs.declared.watch.settings.Setting.{Setting}
-use Rattle.sentinel_conf.specs.declared.watch.settings.Setting.TheVariants.{Timeout, DefaultUser}
+use Rattle.sentinel_conf.specs.declared.watch.settings.Setting.TheVariants.{Timeout, DefaultUser, Reboot}
 use Rattle.sentinel_conf.specs.declared.watch.settings.WatchLine.{WatchLine}
 use Rattle.sentinel_conf.specs.declared.watch.settings.WatchLine.TheVariants.{Other, Says, Faulty}
 use Rattle.sentinel_conf.specs.Watch.WatchLines.{watch_line}
@@ -28,6 +28,7 @@ nearest_words (Some name) = codes "; the nearest is " ++ name
 abbrev pub tells_setting : Setting → Bool
 tells_setting (Timeout seconds) = false
 tells_setting (DefaultUser digits) = false
+tells_setting (Reboot name ms) = false
 tells_setting _ = true
 
 abbrev pub tells_refusal : WatchKind → Bool

@@ -81,7 +81,7 @@ fn tells_setting(setting: &Setting) -> bool
     ensures { result ≡ tells_setting setting.now }
 {
     match setting {
-        Setting::Timeout(_) | Setting::DefaultUser(_) => false,
+        Setting::Timeout(_) | Setting::DefaultUser(_) | Setting::Reboot { .. } => false,
         _ => true,
     }
 }

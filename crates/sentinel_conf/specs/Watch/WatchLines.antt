@@ -5,7 +5,7 @@ use Rattle.ballot_law.specs.Orders.{same_bytes}
 use Rattle.ballot_law.specs.Words.{some_if, name, number_within, lower}
 use Rattle.tokens.specs.Quotes.{is_comment, redis_words}
 use Rattle.sentinel_conf.specs.declared.watch.faults.WatchKind.{WatchKind}
-use Rattle.sentinel_conf.specs.declared.watch.faults.WatchKind.TheVariants.{BadDirective, BadName, BadNumber, BadSeconds, BadBind, BadYesNo, BadQuotes, NamesOfHosts, AclFile, Include, TlsPort, TlsReplication, TlsSetting, RenamedCommand, UnknownDirective, ByteOrderMark}
+use Rattle.sentinel_conf.specs.declared.watch.faults.WatchKind.TheVariants.{BadDirective, BadName, BadNumber, BadSeconds, BadMillis, BadBind, BadYesNo, BadQuotes, NamesOfHosts, AclFile, Include, TlsPort, TlsReplication, TlsSetting, RenamedCommand, UnknownDirective, ByteOrderMark}
 use Rattle.sentinel_conf.specs.declared.watch.settings.Setting.{Setting}
 use Rattle.sentinel_conf.specs.declared.watch.settings.Setting.TheVariants.{Bind, NodePass, NodeUser, OwnPass, PeerPass, PeerUser, Reboot, MaxClients, Timeout, ProtectedMode, DefaultUser}
 use Rattle.sentinel_conf.specs.declared.watch.binds.Bind.{Bind as BindAt}
@@ -57,8 +57,8 @@ peer_user_line = one (λ user. line.Says (PeerUser user))
 
 -- 0 is for ever
 abbrev pub reboot_line : List (List ℕ) → WatchLine
-reboot_line =
-    two (λ n ms. given_or BadName (name n) (λ name. given_or BadNumber (number_within 0 4294967295 ms) (λ ms. line.Says (Reboot name ms))))
+reboot_line (n ∷ ms ∷ []) = given_or BadMillis (name n) (λ name. given_or BadMillis (number_within 0 4294967295 ms) (λ ms. line.Says (Reboot name ms)))
+reboot_line _ = line.Faulty BadMillis
 
 abbrev pub max_clients_line : List (List ℕ) → WatchLine
 max_clients_line = one (λ n. given_or BadNumber (number_within 1 4294967295 n) (λ count. line.Says (MaxClients count)))

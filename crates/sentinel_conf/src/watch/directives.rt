@@ -120,17 +120,17 @@ fn reboot_line(args: &[Text]) -> WatchLine
     ensures { result ≡ reboot_line args.now }
 {
     let [name, ms] = args else {
-        return WatchLine::Faulty(WatchKind::BadDirective);
+        return WatchLine::Faulty(WatchKind::BadMillis);
     };
     let Some(name) = Name::from_slice(name.as_slice()) else {
-        return WatchLine::Faulty(WatchKind::BadName);
+        return WatchLine::Faulty(WatchKind::BadMillis);
     };
     match number_of(ms.as_slice(), 0, COUNT_MAX) {
         Some(ms) => WatchLine::Says(Setting::Reboot {
             name,
             ms: ms as u32,
         }),
-        None => WatchLine::Faulty(WatchKind::BadNumber),
+        None => WatchLine::Faulty(WatchKind::BadMillis),
     }
 }
 

@@ -22,6 +22,10 @@ pub enum WatchKind {
     /// The words of a line `timeout` aren't one number from 0 to 2,147,483,647.
     #[error("BadSeconds: write after how many seconds `timeout` closes a silent connection, one number from 0, which is never, to 2147483647")]
     BadSeconds,
+    /// The words of a line `sentinel master-reboot-down-after-period` aren't the name of a master and one number from 0
+    /// to 4,294,967,295.
+    #[error("BadMillis: write the name of a master, and for how many milliseconds it may load its data once it was started again, one number from 0, which is for ever, to 4294967295")]
+    BadMillis,
     /// A line `bind` has no word, more than `IPS_MAX` words, one that is no ip, or no ip at all.
     #[error("BadBind: write the ips at which this Sentinel listens, as `bind 10.0.0.1 127.0.0.1`, or no such line")]
     BadBind,
