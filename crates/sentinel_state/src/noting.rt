@@ -27,6 +27,13 @@ impl Core {
         self.notices.take()
     }
 
+    /// Notes that the vote of an epoch was given.
+    pub(crate) fn note_vote(&mut self, epoch: u64, leader: RunId)
+        ensures { self.new ≡ self.old }
+    {
+        self.notices.push(Notice::Voted { leader, epoch });
+    }
+
     /// Notes that this happened to a master.
     fn note_master(&mut self, m: u16, what: MasterNotice)
         ensures { self.new ≡ self.old }
