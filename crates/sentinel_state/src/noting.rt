@@ -10,7 +10,7 @@ ghost use Rattle.sentinel_state.specs.Sights.{is_other_down, is_replica_down};
 use crate::cores::Core;
 use crate::nodes::Plan;
 use crate::notices::{MasterNotice, MasterThen, Notice, ReplicaNotice};
-use ballot_law::{Hello, MAX_EPOCH, Member, NODES_MAX, SENTINELS_MAX};
+use ballot_law::{Hello, MAX_EPOCH, Member, NODES_MAX, RunId, SENTINELS_MAX};
 use failover_states::Row;
 
 impl Core {
