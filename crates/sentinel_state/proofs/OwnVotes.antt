@@ -20,6 +20,7 @@ pub refused : (plan : Plan) (m now epoch : ℕ) (candidate : RunId) (core : Core
 refused plan m now epoch candidate core no = at (grants (book_of core m) epoch) no where
   book_at : Bool → Book
   book_at g = if g then record { current = epoch; voted = epoch; leader = Some candidate } else raised (book_of core m) epoch
+
   at : (g : Bool) → g ≡ false
       → with_current core (book_at g).current ≡ (if g then mark_for plan m now candidate (with_book core m (book_at g)) else with_book core m (book_at g))
   at true is = absurd (true≢false is)
