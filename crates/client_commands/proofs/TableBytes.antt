@@ -205,9 +205,9 @@ docs_are commands =
 
 -- ---- by how many there are
 
-pub family_described : (command : KnownCommand) (subs : List KnownCommand) → 1 ≤ length subs → described_with command subs ≡ family_description command subs
-family_described command [] h = absurd (omega (arith, h))
-family_described command (sub ∷ subs) h = refl
+pub family_described : (known : KnownCommand) (subs : List KnownCommand) → 1 ≤ length subs → described_with known subs ≡ family_description known subs
+family_described known [] h = absurd (omega (arith, h))
+family_described known (sub ∷ subs) h = refl
 
 pub info_named : (words : List (List ℕ)) → 1 ≤ length words → command_info words ≡ items (rows_named words)
 info_named [] h = absurd (omega (arith, h))
