@@ -34,8 +34,8 @@ fn check<'a>(alloc: Global) -> Result<Command<'a>, AllocError> {
         .long("mend")
         .value_name("folder")
         .help(
-            "Writes the files anew into this folder, each with the newest configuration of each master, so that a group \
-            goes on with them",
+            "Writes the files anew into this folder, each with the newest configuration of each master, so that \
+            a group goes on with them",
         );
     let for_redis = Arg::new(alloc, "for-redis")
         .long("for-redis")
