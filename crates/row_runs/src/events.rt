@@ -85,6 +85,10 @@ pub(crate) fn event(alloc: Global, words: &[Vec<u8>]) -> Result<Event, Unplayed>
             node: node(of)?,
             reply: PingReply::Loading,
         }),
+        ("noauth", [of]) => Ok(Event::Pinged {
+            node: node(of)?,
+            reply: PingReply::Other,
+        }),
         ("refused", [of]) => Ok(Event::Refused { node: node(of)? }),
         ("lost", [of]) => Ok(Event::Disconnected { node: node(of)? }),
         ("info", [of, bytes]) => Ok(Event::InfoRead {
