@@ -27,7 +27,7 @@ abbrev pub subs_of : KnownCommand → List KnownCommand
 subs_of Client = of_client
 subs_of Command = of_command
 subs_of Sentinel = of_sentinel
-subs_of command = []
+subs_of _ = []
 
 abbrev pub is_sub : KnownCommand → Bool
 is_sub Ping = false
@@ -43,7 +43,7 @@ is_sub Subscribe = false
 is_sub Unsubscribe = false
 is_sub PSubscribe = false
 is_sub PUnsubscribe = false
-is_sub command = true
+is_sub _ = true
 
 -- each command with its subcommands after it
 abbrev pub with_subs : List KnownCommand → List KnownCommand

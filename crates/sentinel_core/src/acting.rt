@@ -122,16 +122,14 @@ fn answer(state: &mut State, now: u64, command: &Command, outbox: &mut Outbox) -
     ensures held_room { outbox.new.held_room ≡ outbox.old.held_room }
     ensures shown_room { outbox.new.shown_room ≡ outbox.old.shown_room }
 {
-    if let Command::Failover(name) = *command {
-        let text = outbox.take_text();
-        let shown = outbox.take_list();
-        return answer_switch(&state.plan, &mut state.core, now, name, text, shown);
-    }
     if let Some(body) = answer_plainly(&state.plan, &mut state.core, now, command) {
         return body;
     }
     let text = outbox.take_text();
     let shown = outbox.take_list();
+    if let Command::Failover(name) = *command {
+        return answer_switch(&state.plan, &mut state.core, now, name, text, shown);
+    }
     answer_by_text(&state.plan, &state.core, now, command, text, shown)
 }
 

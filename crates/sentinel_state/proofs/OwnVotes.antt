@@ -17,7 +17,7 @@ kept_again core m current =
 
 pub refused : (plan : Plan) (m now epoch : ℕ) (candidate : RunId) (core : Core) → grants (book_of core m) epoch ≡ false
     → with_current core (asked (book_of core m) epoch candidate).current ≡ requested plan m now epoch candidate core
-refused plan m now epoch candidate core no = at (grants (book_of core m) epoch) no where
+refused plan m now epoch candidate core held = at (grants (book_of core m) epoch) held where
   book_at : Bool → Book
   book_at g = if g then record { current = epoch; voted = epoch; leader = Some candidate } else raised (book_of core m) epoch
 

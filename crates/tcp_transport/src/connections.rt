@@ -342,6 +342,20 @@ impl<J: Which> Connections<J> {
         }
     }
 
+    /// Has the connection to its node keep a hello that was put out.
+    fn keep_hello(&mut self, outgoing: Outgoing<J>) {
+        let message = outgoing.message();
+        let Body::Publish(_) = &message.body else {
+            return;
+        };
+        let Some(place) = place_of(&self.roster, message.target) else {
+            return;
+        };
+        if let Some(Some(wire)) = self.wires.get_mut(place) {
+            wire.keep_hello(outgoing);
+        }
+    }
+
     /// Puts out the messages that wait, at this reading of the clock.
     fn put_out_all<R: Wait>(&mut self, rt: &R, now: u64) {
         for _ in 0..MESSAGES_MAX {
@@ -350,6 +364,7 @@ impl<J: Which> Connections<J> {
             };
             self.put_out(&outgoing, now);
             self.hurry_heir(outgoing.message(), now);
+            self.keep_hello(outgoing);
         }
     }
 

@@ -32,13 +32,17 @@ const LOOK_MS: u64 = 100;
 /// milliseconds: a master waits for that, and a replica does it once a second by itself.
 const ACKS_MS: u64 = 2_500;
 
+/// How long after an order the last hello goes out once more, in milliseconds: what a node does then closes its clients,
+/// those too that were to hear that hello, and these are back by then.
+const HELLO_AGAIN_MS: u64 = 150;
+
 /// A connection to a node, with its socket where it is open or being opened. `goes_on` is whether it may have more to
 /// read, `is_ending` whether the system told of its end, `is_refused` whether the node refused who asks when it was
 /// heard last, `look_at` when it is to be asked what came of an order, `fault` the fault of what came that closed it
 /// last, and `shut_until` until when it stays closed, since too much came on it, `is_lost` whether it was told to be
 /// lost since it was open last, `is_barred` whether it was given up for want of a password, which wasn't told yet,
 /// `rows` what it asks another Sentinel for its rows, `acks_until` until when its node is asked to acknowledge its
-/// master's stream.
+/// master's stream, `hello` the last hello that went out on it, `hello_at` when that goes out once more.
 #[derive(Drop)]
 pub(crate) struct PeerConnection<J: Which> {
     link: SaidLink<J>,
@@ -54,6 +58,8 @@ pub(crate) struct PeerConnection<J: Which> {
     is_barred: bool,
     rows: RowLook,
     acks_until: u64,
+    hello: Option<Outgoing<J>>,
+    hello_at: Option<u64>,
     alloc: Global,
 }
 
@@ -129,6 +135,8 @@ impl<J: Which> PeerConnection<J> {
             is_barred: false,
             rows: RowLook::new(),
             acks_until: 0,
+            hello: None,
+            hello_at: None,
             alloc,
         }
     }
@@ -247,7 +255,26 @@ impl<J: Which> PeerConnection<J> {
                 self.look_at = None;
             }
         }
+        self.greet_again(now);
         self.send_out(now);
+    }
+
+    /// Keeps a hello that went out on it.
+    pub(crate) fn keep_hello(&mut self, hello: Outgoing<J>) {
+        self.hello = Some(hello);
+    }
+
+    /// Puts out the last hello once more, where that is due. A fault has closed it.
+    fn greet_again(&mut self, now: u64) {
+        match self.hello_at {
+            Some(at) if at <= now => self.hello_at = None,
+            _ => return,
+        }
+        if let Some(hello) = self.hello.take() {
+            if self.takes(hello.message().target) {
+                let _ = self.link.ask(&hello, now);
+            }
+        }
     }
 
     /// Asks another Sentinel for its row of a master of this roster, one after the other, where that is due. A fault
@@ -299,8 +326,8 @@ impl<J: Which> PeerConnection<J> {
     }
 
     /// Puts out a message where it is open, and sends what it can; else the message is lost, and so is a PING where the
-    /// connection has sent one a moment ago. What came of an order to follow a master, or none, is asked soon. A fault
-    /// has closed it.
+    /// connection has sent one a moment ago. What came of an order to follow a master, or none, is asked soon, and the
+    /// last hello goes out once more. A fault has closed it.
     pub(crate) fn ask(&mut self, outgoing: &Outgoing<J>, now: u64)
         requires { (self.old.link.target.node ≡ outgoing.now.target) × (self.old.link.target.listens ≡ false) }
     {
@@ -312,6 +339,7 @@ impl<J: Which> PeerConnection<J> {
         let _ = self.link.ask(outgoing, now);
         if let Body::ReplicaOf(_) = message.body {
             self.look_at = Some(now.saturating_add(LOOK_MS));
+            self.hello_at = Some(now.saturating_add(HELLO_AGAIN_MS));
         }
         self.send_out(now);
     }

@@ -186,17 +186,17 @@ told_none out k h =
 
 -- What holds of each row
 
-each_test : {X : Type 0} (P : X → Type 0) (row_of : ℕ → X) (out : ℕ → Bool) (place count : ℕ) (b : Bool) → P (row_of place) →
-    AllByRecursion P (map row_of (places_told out (place + 1) count))
+each_test : {X : Type 0} (P : X → Type 0) (row_of : ℕ → X) (out : ℕ → Bool) (place count : ℕ) (b : Bool) → out place ≡ b → (out place ≡ false → P (row_of place))
+    → AllByRecursion P (map row_of (places_told out (place + 1) count))
     → AllByRecursion P (map row_of (if b then places_told out (place + 1) count else place ∷ places_told out (place + 1) count))
-each_test P row_of out place count true here rest = rest
-each_test P row_of out place count false here rest = (here, rest)
+each_test P row_of out place count true e here rest = rest
+each_test P row_of out place count false e here rest = (here e, rest)
 
-each_told : {X : Type 0} (P : X → Type 0) (row_of : ℕ → X) (out : ℕ → Bool) (place count : ℕ) → ((k : ℕ) → k < place + count → P (row_of k)) →
+each_told : {X : Type 0} (P : X → Type 0) (row_of : ℕ → X) (out : ℕ → Bool) (place count : ℕ) → ((k : ℕ) → k < place + count → out k ≡ false → P (row_of k)) →
     AllByRecursion P (map row_of (places_told out place count))
 each_told P row_of out place zero h = tt
 each_told P row_of out place (suc count) h =
-    each_test P row_of out place count (out place) (h place (omega arith)) (each_told P row_of out (place + 1) count (λ k l. h k (omega arith)))
+    each_test P row_of out place count (out place) refl (h place (omega arith)) (each_told P row_of out (place + 1) count (λ k l. h k (omega arith)))
 
 each_from : {X : Type 0} (P : X → Type 0) (row_of : ℕ → X) (place count : ℕ) → ((k : ℕ) → k < place + count → P (row_of k)) →
     AllByRecursion P (map row_of (numbers_from place count))
@@ -250,7 +250,7 @@ masters_whole plan core now n text is few each e =
 
 rows_whole : {X : Type 0} (frame_of : X → Frame) (row_of : ℕ → X) (P : X → Type 0) (most : ℕ) (out : ℕ → Bool) (n : ℕ) (text : List ℕ)
     → ((rows : List X) → length rows ≤ most → AllByRecursion P rows → Fits (items (frames_of (map frame_of rows))))
-    → n ≤ most → ((k : ℕ) → k < n → P (row_of k))
+    → n ≤ most → ((k : ℕ) → k < n → out k ≡ false → P (row_of k))
     → text ≡ bounded (header (length (places_told out 0 n)) ++ text_below (text_told out (λ k. spelling (frame_of (row_of k)))) n)
     → text ≡ spelling (items (frames_of (map frame_of (map row_of (places_told out 0 n)))))
 rows_whole frame_of row_of P most out n text fit few each e =
@@ -262,7 +262,7 @@ rows_whole frame_of row_of P most out n text fit few each e =
     count e
 
 pub replicas_whole : (plan : Plan) (core : Core) (now m n : ℕ) (text : List ℕ) → n ≡ length (nodes_of plan m) → n ≤ NODES_MAX
-    → ((k : ℕ) → k < n → IsReplicaRow (replica_row plan core now m k))
+    → ((k : ℕ) → k < n → is_left_out plan core m k ≡ false → IsReplicaRow (replica_row plan core now m k))
     → text ≡ bounded (header (length (places_told (is_left_out plan core m) 0 n)) ++
     text_below (text_told (is_left_out plan core m) (λ k. spelling (replica_frame_by plan.profile (replica_row plan core now m k)))) n)
     → text ≡ spelling (replicas_frame_by plan.profile (replica_rows plan core now m))
@@ -272,7 +272,7 @@ replicas_whole plan core now m n text is few each e =
     ∙ ap (λ k. spelling (replicas_frame_by plan.profile (map row_of (places_told (is_left_out plan core m) 0 k)))) is
 
 pub sentinels_whole : (plan : Plan) (core : Core) (now m one n : ℕ) (text : List ℕ) → one ≡ plan.place → n ≡ group_size plan → n ≤ SENTINELS_MAX
-    → ((k : ℕ) → k < n → IsSentinelRow (sentinel_row plan core now m k))
+    → ((k : ℕ) → k < n → (k == one) ≡ false → IsSentinelRow (sentinel_row plan core now m k))
     → text ≡ bounded (header (length (places_but one 0 n)) ++
     text_below (text_but one (λ k. spelling (sentinel_frame_by plan.profile (sentinel_row plan core now m k)))) n)
     → text ≡ spelling (sentinels_frame_by plan.profile (sentinel_rows plan core now m))

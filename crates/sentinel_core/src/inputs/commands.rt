@@ -69,12 +69,12 @@ fn no_such_master(text: AnswerText, shown: Vec<Shown>) -> Body
 }
 
 /// The answer to a command that needs no text: PING, `SENTINEL IS-MASTER-DOWN-BY-ADDR`, which may give a vote, and
-/// `SENTINEL GET-MASTER-ADDR-BY-NAME`. For the others there is none, and nothing changes. `answer_switch` answers
+/// `SENTINEL GET-MASTER-ADDR-BY-NAME`. For the others there is none, and nothing changes: `answer_switch` answers
 /// `SENTINEL FAILOVER`.
 pub fn answer_plainly(plan: &Plan, core: &mut Core, now: u64, command: &Command) -> Option<Body>
-    requires kind { is_switch command.now ≡ false }
     ensures plain { IsSome result ↔ (is_plain command.now ≡ true) }
-    ensures core { core.new ≡ (commanded plan.now (clock now) command.now core.old).core }
+    ensures core { is_plain command.now ≡ true → core.new ≡ (commanded plan.now (clock now) command.now core.old).core }
+    ensures other { is_plain command.now ≡ false → core.new ≡ core.old }
     ensures body { IfSome result (λ body. body ≡ (commanded plan.now (clock now) command.now core.old).body) }
 {
     match *command {

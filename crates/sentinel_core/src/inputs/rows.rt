@@ -1,6 +1,6 @@
 //! What answers say of masters, replicas and Sentinels.
 
-ghost use Rattle.std.specs.Prelude.{◌≡◌, ◌≤◌, ◌<◌, ◌++◌, [], ◌==◌, if◌then◌else◌, length, map, vec_capacity};
+ghost use Rattle.std.specs.Prelude.{◌≡◌, ◌≤◌, ◌<◌, ◌++◌, [], false, ◌==◌, if◌then◌else◌, length, map, vec_capacity};
 ghost use Rattle.ballot_law.specs.declared.messages.TheConstants.{SHOWN_MAX};
 ghost use Rattle.ballot_law.specs.Clocks.{clock};
 ghost use Rattle.ballot_law.specs.Rosters.{no_member};
@@ -215,13 +215,13 @@ fn add_replica_but(
     requires { card_at ≡ card_place plan.now core.now m }
     ensures value { text.new ≡ bounded (text.old ++ (if is_left_out plan.now core.now m k then []
         else spelling (replica_frame_by plan.now.profile (replica_row plan.now core.now (clock now) m k)))) }
-    ensures fits { IsReplicaRow (replica_row plan.now core.now (clock now) m k) }
+    ensures fits { is_left_out plan.now core.now m k ≡ false → IsReplicaRow (replica_row plan.now core.now (clock now) m k) }
 {
-    let row = replica_row(plan, core, now, m, card_at, k);
     if is_left_out(plan, core, m, card_at, k) {
         let _whole = text.as_slice();
         return;
     }
+    let row = replica_row(plan, core, now, m, card_at, k);
     add_replica(plan.profile(), &row, text);
 }
 
@@ -243,13 +243,13 @@ pub(crate) fn add_replicas(plan: &Plan, core: &Core, now: u64, m: u16, text: &mu
 fn add_sentinel_but(plan: &Plan, core: &Core, now: u64, m: u16, place: u16, text: &mut AnswerText)
     ensures value { text.new ≡ bounded (text.old ++ (if place == plan.now.place then []
         else spelling (sentinel_frame_by plan.now.profile (sentinel_row plan.now core.now (clock now) m place)))) }
-    ensures fits { IsSentinelRow (sentinel_row plan.now core.now (clock now) m place) }
+    ensures fits { (place == plan.now.place) ≡ false → IsSentinelRow (sentinel_row plan.now core.now (clock now) m place) }
 {
-    let row = sentinel_row(plan, core, now, m, place);
     if place == plan.place() {
         let _whole = text.as_slice();
         return;
     }
+    let row = sentinel_row(plan, core, now, m, place);
     add_sentinel(plan.profile(), &row, text);
 }
 

@@ -1,4 +1,4 @@
-use Rattle.std.proofs.Common.{◌≡◌, ◌++◌, ℕ, length, ap, ◌∙◌, subst, arith, below_more}
+use Rattle.std.proofs.Common.{◌≡◌, ◌++◌, ℕ, false, length, ap, ◌∙◌, subst, arith, below_more}
 use Rattle.ballot_law.specs.Clocks.{clock}
 use Rattle.resp2.specs.Framing.Frame.{spelling}
 use Rattle.port_answers.specs.Room.{bounded}
@@ -22,7 +22,7 @@ loop-k-preserved c =
       written =
           one_written (header (length (places_told out 0 n))) (text_told out (λ k. spelling (replica_frame_by plan.profile (row_of k)))) k c.loop-k.text
           c.add_replica_but.new.text c.loop-k.invariant.written c.add_replica_but.ensures.value;
-      fits = below_more (λ k. IsReplicaRow (row_of k)) k c.loop-k.invariant.fits c.add_replica_but.ensures.fits;
+      fits = below_more (λ k. out k ≡ false → IsReplicaRow (row_of k)) k c.loop-k.invariant.fits c.add_replica_but.ensures.fits;
     }
 
 pub returns : goal.returns

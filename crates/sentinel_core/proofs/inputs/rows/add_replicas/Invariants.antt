@@ -1,4 +1,4 @@
-use Rattle.std.proofs.Common.{◌≡◌, ℕ, ◌<◌, ◌++◌, length}
+use Rattle.std.proofs.Common.{◌≡◌, ℕ, false, ◌<◌, ◌++◌, length}
 use Rattle.ballot_law.specs.Clocks.{clock}
 use Rattle.resp2.specs.Framing.Frame.{spelling}
 use Rattle.port_answers.specs.Room.{bounded}
@@ -15,5 +15,5 @@ invariant-loop-k l =
       written : l.text
           ≡ bounded (header (length (places_told (is_left_out l.plan l.core l.m) 0 l.count)) ++
           text_below (text_told (is_left_out l.plan l.core l.m) (λ k. spelling (replica_frame_by l.plan.profile (replica_row l.plan l.core (clock l.now) l.m k)))) l.k);
-      fits : (k : ℕ) → k < l.k → IsReplicaRow (replica_row l.plan l.core (clock l.now) l.m k);
+      fits : (k : ℕ) → k < l.k → is_left_out l.plan l.core l.m k ≡ false → IsReplicaRow (replica_row l.plan l.core (clock l.now) l.m k);
     }

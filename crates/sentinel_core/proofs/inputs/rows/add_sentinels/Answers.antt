@@ -1,4 +1,4 @@
-use Rattle.std.proofs.Common.{◌≡◌, ◌++◌, ◌∙◌, ℕ, List, length, ap, sym, subst, arith, below_more}
+use Rattle.std.proofs.Common.{◌≡◌, ◌==◌, ◌++◌, ◌∙◌, false, ℕ, List, length, ap, sym, subst, arith, below_more}
 use Rattle.ballot_law.specs.Clocks.{clock}
 use Rattle.resp2.specs.Framing.Frame.{spelling}
 use Rattle.port_answers.specs.Room.{bounded}
@@ -21,7 +21,8 @@ loop-place-preserved c =
           one_written (header (length (places_but own 0 n))) (text_but own told) place c.loop-place.text c.add_sentinel_but.new.text
           c.loop-place.invariant.written
           (c.add_sentinel_but.ensures.value ∙ ap (λ one. bounded (c.loop-place.text ++ text_but one told place)) (sym c.place-own.ensures));
-      fits = below_more (λ k. IsSentinelRow (row_of k)) place c.loop-place.invariant.fits c.add_sentinel_but.ensures.fits;
+      fits = below_more (λ k. (k == own) ≡ false → IsSentinelRow (row_of k)) place c.loop-place.invariant.fits
+          (λ other. c.add_sentinel_but.ensures.fits (ap (λ one. place == one) (sym c.place-own.ensures) ∙ other));
     }
 
 pub returns : goal.returns

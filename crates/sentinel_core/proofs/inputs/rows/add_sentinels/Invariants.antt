@@ -1,4 +1,4 @@
-use Rattle.std.proofs.Common.{◌≡◌, ℕ, ◌<◌, ◌++◌, length}
+use Rattle.std.proofs.Common.{◌≡◌, ◌==◌, ℕ, false, ◌<◌, ◌++◌, length}
 use Rattle.ballot_law.specs.Clocks.{clock}
 use Rattle.resp2.specs.Framing.Frame.{spelling}
 use Rattle.port_answers.specs.Room.{bounded}
@@ -15,5 +15,5 @@ invariant-loop-place l =
       written : l.text
           ≡ bounded (header (length (places_but l.own 0 l.count)) ++
           text_below (text_but l.own (λ k. spelling (sentinel_frame_by l.plan.profile (sentinel_row l.plan l.core (clock l.now) l.m k)))) l.place);
-      fits : (k : ℕ) → k < l.place → IsSentinelRow (sentinel_row l.plan l.core (clock l.now) l.m k);
+      fits : (k : ℕ) → k < l.place → (k == l.own) ≡ false → IsSentinelRow (sentinel_row l.plan l.core (clock l.now) l.m k);
     }
