@@ -32,8 +32,8 @@ const LOOK_MS: u64 = 100;
 /// milliseconds: a master waits for that, and a replica does it once a second by itself.
 const ACKS_MS: u64 = 2_500;
 
-/// How long after an order the last hello goes out once more, in milliseconds: what a node does then closes its clients,
-/// those too that were to hear that hello, and these are back by then.
+/// How long after an order the last hello goes out once more, in milliseconds: the node closes its clients for it, also
+/// those that were to hear that hello, and these are back by then.
 const HELLO_AGAIN_MS: u64 = 150;
 
 /// A connection to a node, with its socket where it is open or being opened. `goes_on` is whether it may have more to
