@@ -3,9 +3,10 @@
 ghost use Rattle.std.specs.Prelude.{◌≤◌, vec_capacity};
 
 use crate::commands::{fault_of, value_of};
-use crate::given::{address, id, is_down, is_lost, maybe_id, number, number_32};
+use crate::names_and_texts::name;
 use crate::told::{Told, Unplayed};
-use ballot_law::{ANSWER_MAX, DataRole, Name};
+use crate::words::Words;
+use ballot_law::{ANSWER_MAX, DataRole};
 use port_answers::{
     AnswerText, ContactRow, FailoverStage, LinkRow, MasterRow, ReplicaRow, SaidRow, SentinelRow,
 };
@@ -33,167 +34,98 @@ const NO_LINK: LinkRow = LinkRow {
     announced: true,
 };
 
-/// The times that these four words are: of a PING that waits, of the last valid reply, of the last one, and since when
-/// the node is down.
-fn contact(words: &[Vec<u8>]) -> Result<ContactRow, Unplayed> {
-    let [ping_ms, valid_ms, reply_ms, down_ms] = words else {
-        return Err(Unplayed::WrongWords);
-    };
-    Ok(ContactRow {
-        ping_ms: number(ping_ms)?,
-        valid_ms: number(valid_ms)?,
-        reply_ms: number(reply_ms)?,
-        down_ms: number(down_ms)?,
-    })
+/// The times of a connection: of a PING that waits, of the last valid reply, of the last one, and since when the node is
+/// down.
+fn contact(words: &mut Words) -> ContactRow {
+    ContactRow {
+        ping_ms: words.number(),
+        valid_ms: words.number(),
+        reply_ms: words.number(),
+        down_ms: words.number(),
+    }
 }
 
-/// What the INFO of a node said that these four words are: its run id, when it came, its role and since when it has it.
-fn said(words: &[Vec<u8>]) -> Result<SaidRow, Unplayed> {
-    let [own_id, info_ms, role, role_ms] = words else {
-        return Err(Unplayed::WrongWords);
-    };
-    let role = match role.as_slice() {
-        b"master" => DataRole::Master,
-        b"slave" => DataRole::Replica,
-        _ => return Err(Unplayed::WrongWords),
-    };
-    Ok(SaidRow {
-        id: maybe_id(own_id)?,
-        info_ms: number(info_ms)?,
-        role,
-        role_ms: number(role_ms)?,
-    })
+/// The role that the next word is.
+fn role(words: &mut Words) -> DataRole {
+    if words.says(b"master", b"slave") {
+        DataRole::Master
+    } else {
+        DataRole::Replica
+    }
 }
 
-/// What a replica said of its master that these five words are: for how long its link has been down, whether it is up,
-/// the address, and whether it may be told to clients.
-fn link(words: &[Vec<u8>]) -> Result<LinkRow, Unplayed> {
-    let [down_ms, state, ip, port, announced] = words else {
-        return Err(Unplayed::WrongWords);
-    };
-    let is_known = ip.as_slice() != b"?".as_slice();
-    Ok(LinkRow {
-        down_ms: number(down_ms)?,
-        up: !is_down(state)?,
-        master: if is_known {
-            Some(address(ip, port)?)
-        } else {
-            None
-        },
-        announced: announced.as_slice() == b"1".as_slice(),
-    })
+/// What the INFO of a node said: its run id, when it came, its role and since when it has it.
+fn said(words: &mut Words) -> SaidRow {
+    SaidRow {
+        id: words.maybe_id(),
+        info_ms: words.number(),
+        role: role(words),
+        role_ms: words.number(),
+    }
 }
 
-/// The stage of a failover with this name.
-fn stage(word: &[u8]) -> Result<FailoverStage, Unplayed> {
-    match word {
-        b"none" => Ok(FailoverStage::NoFailover),
-        b"votes" => Ok(FailoverStage::WaitStart),
-        b"choice" => Ok(FailoverStage::SelectReplica),
-        b"order" => Ok(FailoverStage::SendPromotion),
-        b"promotion" => Ok(FailoverStage::WaitPromotion),
-        b"others" => Ok(FailoverStage::ReconfReplicas),
-        b"end" => Ok(FailoverStage::UpdateConfig),
+/// What a replica said of its master: for how long its link has been down, whether it is up, the address, and whether
+/// it may be told to clients.
+fn link(words: &mut Words) -> LinkRow {
+    let (down_ms, up) = (words.number(), words.says(b"up", b"down"));
+    let master = if words.begin_with(b"?") {
+        words.next();
+        None
+    } else {
+        Some(words.address())
+    };
+    LinkRow {
+        down_ms,
+        up,
+        master,
+        announced: words.says(b"1", b"0"),
+    }
+}
+
+/// The stage of a failover with the name that the next word is.
+fn stage(words: &mut Words) -> Result<FailoverStage, Unplayed> {
+    match words.text() {
+        "none" => Ok(FailoverStage::NoFailover),
+        "votes" => Ok(FailoverStage::WaitStart),
+        "choice" => Ok(FailoverStage::SelectReplica),
+        "order" => Ok(FailoverStage::SendPromotion),
+        "promotion" => Ok(FailoverStage::WaitPromotion),
+        "others" => Ok(FailoverStage::ReconfReplicas),
+        "end" => Ok(FailoverStage::UpdateConfig),
         _ => Err(Unplayed::WrongWords),
     }
 }
 
-/// Adds the master that the first eleven words are, in redis-sentinel's words: then come whether enough Sentinels find
-/// it down and since when, the stage of its failover, four words of its connection and four of its INFO.
-fn add_redis_master(answers: &mut AnswerText, words: &[Vec<u8>]) -> Result<(), Unplayed> {
-    if words.len() != 22 {
-        return Err(Unplayed::WrongWords);
+/// How a node is: whether it is down, and whether the connection to it was lost.
+fn state(words: &mut Words) -> Result<(bool, bool), Unplayed> {
+    match words.text() {
+        "up" => Ok((false, false)),
+        "down" => Ok((true, false)),
+        "lost" => Ok((false, true)),
+        "gone" => Ok((true, true)),
+        _ => Err(Unplayed::WrongWords),
     }
-    let mut row = master(&words[..11])?;
-    row.odown = words[11].as_slice() == b"odown".as_slice();
-    row.odown_ms = number(&words[12])?;
-    row.stage = stage(&words[13])?;
-    row.failing_over = row.stage != FailoverStage::NoFailover;
-    row.contact = contact(&words[14..18])?;
-    row.said = said(&words[18..])?;
-    answers.add_redis_master(&row);
-    Ok(())
 }
 
-/// Adds a replica in redis-sentinel's words: its address, whether it is down, its priority and offset, after how long
-/// it is down, four words of its connection, four of its INFO and five of its master.
-fn add_redis_replica(answers: &mut AnswerText, words: &[Vec<u8>]) -> Result<(), Unplayed> {
-    if words.len() != 19 {
-        return Err(Unplayed::WrongWords);
-    }
-    answers.add_redis_replica(&ReplicaRow {
-        addr: address(&words[0], &words[1])?,
-        down: is_down(&words[2])?,
-        disconnected: is_lost(&words[2]),
-        priority: number(&words[3])?,
-        offset: number(&words[4])?,
-        after_ms: number(&words[5])?,
-        contact: contact(&words[6..10])?,
-        said: said(&words[10..14])?,
-        link: link(&words[14..])?,
-    });
-    Ok(())
-}
-
-/// Adds a Sentinel in redis-sentinel's words: its run id, its address, whether it is down, how many masters it watches,
-/// after how long it is down, when its last hello came, its last vote and the epoch of it, and four words of its
-/// connection.
-fn add_redis_sentinel(answers: &mut AnswerText, words: &[Vec<u8>]) -> Result<(), Unplayed> {
-    if words.len() != 13 {
-        return Err(Unplayed::WrongWords);
-    }
-    answers.add_redis_sentinel(&SentinelRow {
-        id: id(&words[0])?,
-        addr: address(&words[1], &words[2])?,
-        down: is_down(&words[3])?,
-        disconnected: is_lost(&words[3]),
-        masters: number(&words[4])?,
-        after_ms: number(&words[5])?,
-        hello_ms: number(&words[6])?,
-        leader: maybe_id(&words[7])?,
-        leader_epoch: number(&words[8])?,
-        contact: contact(&words[9..])?,
-    });
-    Ok(())
-}
-
-/// The master that these words are: its name, its address, whether it is down by all accounts and its failover runs,
-/// its quorum, and the numbers of its answer in their order.
-fn master(words: &[Vec<u8>]) -> Result<MasterRow, Unplayed> {
-    let [
-        name,
-        ip,
-        port,
-        state,
-        quorum,
-        replicas,
-        others,
-        after_ms,
-        timeout,
-        parallel_syncs,
-        epoch,
-    ] = words
-    else {
-        return Err(Unplayed::WrongWords);
-    };
-    let Some(name) = Name::from_slice(name) else {
-        return Err(Unplayed::WrongWords);
-    };
-    let is_failing = is_down(state)?;
+/// A master: its name, its address, whether it is down by all accounts and its failover runs, its quorum, and the
+/// numbers of its answer in their order.
+fn master(words: &mut Words) -> Result<MasterRow, Unplayed> {
+    let (name, addr) = (name(words)?, words.address());
+    let (down, disconnected) = state(words)?;
     Ok(MasterRow {
         name,
-        addr: address(ip, port)?,
-        down: is_failing,
-        odown: is_failing,
-        disconnected: is_lost(state),
-        failing_over: is_failing,
-        replicas: number(replicas)?,
-        others: number(others)?,
-        quorum: number_32(quorum)?,
-        after_ms: number(after_ms)?,
-        timeout: number(timeout)?,
-        parallel_syncs: number(parallel_syncs)?,
-        epoch: number(epoch)?,
+        addr,
+        down,
+        odown: down,
+        disconnected,
+        failing_over: down,
+        quorum: words.number_32(),
+        replicas: words.number(),
+        others: words.number(),
+        after_ms: words.number(),
+        timeout: words.number(),
+        parallel_syncs: words.number(),
+        epoch: words.number(),
         odown_ms: 0,
         stage: FailoverStage::NoFailover,
         contact: NO_CONTACT,
@@ -201,79 +133,139 @@ fn master(words: &[Vec<u8>]) -> Result<MasterRow, Unplayed> {
     })
 }
 
+/// A master in redis-sentinel's words: after those of a master come whether enough Sentinels find it down and since
+/// when, the stage of its failover, four words of its connection and four of its INFO.
+fn redis_master(words: &mut Words) -> Result<MasterRow, Unplayed> {
+    let mut row = master(words)?;
+    row.odown = words.says(b"odown", b"-");
+    row.odown_ms = words.number();
+    row.stage = stage(words)?;
+    row.failing_over = row.stage != FailoverStage::NoFailover;
+    row.contact = contact(words);
+    row.said = said(words);
+    Ok(row)
+}
+
+/// A replica: its address, whether it is down, its priority and offset.
+fn replica(words: &mut Words) -> Result<ReplicaRow, Unplayed> {
+    let addr = words.address();
+    let (down, disconnected) = state(words)?;
+    Ok(ReplicaRow {
+        addr,
+        down,
+        disconnected,
+        priority: words.number(),
+        offset: words.number(),
+        after_ms: 0,
+        contact: NO_CONTACT,
+        said: NOTHING_SAID,
+        link: NO_LINK,
+    })
+}
+
+/// A replica in redis-sentinel's words: after those of a replica come after how long it is down, four words of its
+/// connection, four of its INFO and five of its master.
+fn redis_replica(words: &mut Words) -> Result<ReplicaRow, Unplayed> {
+    let mut row = replica(words)?;
+    row.after_ms = words.number();
+    row.contact = contact(words);
+    row.said = said(words);
+    row.link = link(words);
+    Ok(row)
+}
+
+/// A Sentinel: its run id, its address, whether it is down.
+fn sentinel(words: &mut Words) -> Result<SentinelRow, Unplayed> {
+    let (id, addr) = (words.id(), words.address());
+    let (down, disconnected) = state(words)?;
+    Ok(SentinelRow {
+        id,
+        addr,
+        down,
+        disconnected,
+        masters: 1,
+        after_ms: 0,
+        hello_ms: 0,
+        leader: None,
+        leader_epoch: 0,
+        contact: NO_CONTACT,
+    })
+}
+
+/// A Sentinel in redis-sentinel's words: after those of a Sentinel come how many masters it watches, after how long it
+/// is down, when its last hello came, its last vote and the epoch of it, and four words of its connection.
+fn redis_sentinel(words: &mut Words) -> Result<SentinelRow, Unplayed> {
+    let mut row = sentinel(words)?;
+    row.masters = words.number();
+    row.after_ms = words.number();
+    row.hello_ms = words.number();
+    row.leader = words.maybe_id();
+    row.leader_epoch = words.number();
+    row.contact = contact(words);
+    Ok(row)
+}
+
 /// Adds a list of replicas, of five words each.
-fn add_replicas(answers: &mut AnswerText, words: &[Vec<u8>]) -> Result<(), Unplayed> {
-    answers.add_count((words.len() / 5) as u64);
-    for replica in words.chunks(5) {
-        let [ip, port, state, priority, offset] = replica else {
-            return Err(Unplayed::WrongWords);
-        };
-        answers.add_replica(&ReplicaRow {
-            addr: address(ip, port)?,
-            down: is_down(state)?,
-            disconnected: is_lost(state),
-            priority: number(priority)?,
-            offset: number(offset)?,
-            after_ms: 0,
-            contact: NO_CONTACT,
-            said: NOTHING_SAID,
-            link: NO_LINK,
-        });
+fn add_replicas(answers: &mut AnswerText, words: &mut Words) -> Result<(), Unplayed> {
+    let count = words.len() / 5;
+    answers.add_count(count as u64);
+    for _ in 0..count {
+        answers.add_replica(&replica(words)?);
     }
     Ok(())
 }
 
 /// Adds a list of Sentinels, of four words each.
-fn add_sentinels(answers: &mut AnswerText, words: &[Vec<u8>]) -> Result<(), Unplayed> {
-    answers.add_count((words.len() / 4) as u64);
-    for sentinel in words.chunks(4) {
-        let [own_id, ip, port, state] = sentinel else {
-            return Err(Unplayed::WrongWords);
-        };
-        answers.add_sentinel(&SentinelRow {
-            id: id(own_id)?,
-            addr: address(ip, port)?,
-            down: is_down(state)?,
-            disconnected: is_lost(state),
-            masters: 1,
-            after_ms: 0,
-            hello_ms: 0,
-            leader: None,
-            leader_epoch: 0,
-            contact: NO_CONTACT,
-        });
+fn add_sentinels(answers: &mut AnswerText, words: &mut Words) -> Result<(), Unplayed> {
+    let count = words.len() / 4;
+    answers.add_count(count as u64);
+    for _ in 0..count {
+        answers.add_sentinel(&sentinel(words)?);
     }
     Ok(())
+}
+
+/// Adds that too few Sentinels agree, in redis-sentinel's words.
+fn add_redis_no_quorum(answers: &mut AnswerText, words: &mut Words) {
+    let (usable, quorum) = (words.number(), words.number());
+    answers.add_redis_no_quorum(usable, quorum, words.number());
+}
+
+/// Adds what a call adds, if it is one that adds a line. Whether it is.
+fn add_line(call: &str, words: &mut Words, answers: &mut AnswerText) -> bool {
+    match call {
+        "add_redis_quorum_reached" => answers.add_redis_quorum_reached(words.number()),
+        "add_redis_no_quorum" => add_redis_no_quorum(answers, words),
+        "add_no_such_master" => answers.add_no_such_master(),
+        "add_ok" => answers.add_ok(),
+        "add_quorum_reached" => answers.add_quorum_reached(words.number()),
+        "add_no_quorum" => answers.add_no_quorum(words.number()),
+        "add_id" => answers.add_id(words.id()),
+        "add_subscribed" => answers.add_subscribed(),
+        "add_protocol_error" => answers.add_protocol_error(),
+        _ => return false,
+    }
+    true
 }
 
 /// Adds what a call adds with these words.
 fn add(
     alloc: Global,
     call: &str,
-    words: &[Vec<u8>],
+    words: &mut Words,
     answers: &mut AnswerText,
 ) -> Result<(), Unplayed> {
-    match (call, words) {
-        ("add_master", words) => answers.add_master(&master(words)?),
-        ("add_replicas", words) => add_replicas(answers, words)?,
-        ("add_sentinels", words) => add_sentinels(answers, words)?,
-        ("add_redis_master", words) => add_redis_master(answers, words)?,
-        ("add_redis_replica", words) => add_redis_replica(answers, words)?,
-        ("add_redis_sentinel", words) => add_redis_sentinel(answers, words)?,
-        ("add_redis_quorum_reached", [usable]) => answers.add_redis_quorum_reached(number(usable)?),
-        ("add_redis_no_quorum", [usable, quorum, sentinels]) => {
-            answers.add_redis_no_quorum(number(usable)?, number(quorum)?, number(sentinels)?);
+    match call {
+        "add_master" => answers.add_master(&master(words)?),
+        "add_replicas" => add_replicas(answers, words)?,
+        "add_sentinels" => add_sentinels(answers, words)?,
+        "add_redis_master" => answers.add_redis_master(&redis_master(words)?),
+        "add_redis_replica" => answers.add_redis_replica(&redis_replica(words)?),
+        "add_redis_sentinel" => answers.add_redis_sentinel(&redis_sentinel(words)?),
+        "add_command_fault" => {
+            answers.add_command_fault(fault_of(&value_of(alloc, words.next())?)?);
         }
-        ("add_no_such_master", []) => answers.add_no_such_master(),
-        ("add_ok", []) => answers.add_ok(),
-        ("add_quorum_reached", [usable]) => answers.add_quorum_reached(number(usable)?),
-        ("add_no_quorum", [usable]) => answers.add_no_quorum(number(usable)?),
-        ("add_id", [own_id]) => answers.add_id(id(own_id)?),
-        ("add_subscribed", []) => answers.add_subscribed(),
-        ("add_command_fault", [bytes]) => {
-            answers.add_command_fault(fault_of(&value_of(alloc, bytes)?)?);
-        }
-        ("add_protocol_error", []) => answers.add_protocol_error(),
+        _ if add_line(call, words, answers) => {}
         _ => return Err(Unplayed::NoSuchCall),
     }
     Ok(())
@@ -284,36 +276,29 @@ fn tell_room_again(alloc: Global, told: &mut Told) -> Result<(), Unplayed> {
     let mut answers = AnswerText::with_room(alloc)?;
     answers.add_ok();
     let bytes = answers.into_text().into_vec();
-    told.bytes(&bytes)?;
+    told.bytes(&bytes);
     if bytes.capacity() < ANSWER_MAX {
-        return told.word("and less room");
+        told.word("and less room");
+        return Ok(());
     }
     let mut again = AnswerText::from_vec(bytes);
     again.add_no_quorum(0);
-    told.bytes(again.as_slice())
-}
-
-/// Tells what a call adds with these words.
-fn tell_answer(
-    alloc: Global,
-    call: &str,
-    words: &[Vec<u8>],
-    told: &mut Told,
-) -> Result<(), Unplayed> {
-    let mut answers = AnswerText::with_room(alloc)?;
-    add(alloc, call, words, &mut answers)?;
-    told.bytes(answers.as_slice())
+    told.bytes(again.as_slice());
+    Ok(())
 }
 
 /// Tells what comes of a call with these words.
 pub(crate) fn play(
     alloc: Global,
     call: &str,
-    words: &[Vec<u8>],
+    words: &mut Words,
     told: &mut Told,
 ) -> Result<(), Unplayed> {
-    match (call, words) {
-        ("room_again", []) => tell_room_again(alloc, told),
-        (call, words) => tell_answer(alloc, call, words, told),
+    if call == "room_again" {
+        return tell_room_again(alloc, told);
     }
+    let mut answers = AnswerText::with_room(alloc)?;
+    add(alloc, call, words, &mut answers)?;
+    told.bytes(answers.as_slice());
+    Ok(())
 }

@@ -5,54 +5,44 @@ ghost use Rattle.ballot_law.specs.Hellos.{IsHello};
 ghost use Rattle.node_texts.specs.Messages.MessageTexts.{IsWritable};
 ghost use Rattle.ballot_law.specs.Limits.{AnswersWithin, HasEpochWithin, IsWithinBody};
 
-use crate::given::{addr, maybe_addr, maybe_id, number, number_16, says, text};
+use crate::names_and_texts::name;
 use crate::told::Unplayed;
+use crate::words::Words;
 use crate::writable::is_line;
 use crate::{infos, roles};
-use ballot_law::{Body, Card, Hello, MAX_EPOCH, Name, Role, ShortText, Shown, ShownList, Text};
+use ballot_law::{Body, Card, Hello, Role, ShortText, Shown, ShownList, Text};
 use node_texts::{read_hello, read_info};
 use std::alloc::Global;
 
 /// A question about a master: its number and address, the epoch, and the candidate.
-fn ask(words: &[Vec<u8>]) -> Result<Body, Unplayed>
+fn ask(words: &mut Words) -> Result<Body, Unplayed>
     ensures within { IfOk result IsWithinBody }
     ensures epochs { IfOk result AnswersWithin }
     ensures writable { IfOk result IsWritable }
 {
-    let [master, about, epoch, candidate] = words else {
-        return Err(Unplayed::WrongWords);
-    };
-    let epoch = number(epoch)?;
-    if epoch > MAX_EPOCH {
-        return Err(Unplayed::OutOfRange);
-    }
+    let (master, addr) = (words.number_16(), words.addr());
     Ok(Body::Ask {
-        master: number_16(master)?,
-        addr: addr(about)?,
-        epoch,
-        candidate: maybe_id(candidate)?,
+        master,
+        addr,
+        epoch: words.epoch()?,
+        candidate: words.maybe_id(),
     })
 }
 
 /// The answer to it: the number and address of the master, whether it is down, the vote and its epoch.
-fn answer(words: &[Vec<u8>]) -> Result<Body, Unplayed>
+fn answer(words: &mut Words) -> Result<Body, Unplayed>
     ensures within { IfOk result IsWithinBody }
     ensures epochs { IfOk result AnswersWithin }
     ensures writable { IfOk result IsWritable }
 {
-    let [master, about, down, leader, epoch] = words else {
-        return Err(Unplayed::WrongWords);
-    };
-    let epoch = number(epoch)?;
-    if epoch > MAX_EPOCH {
-        return Err(Unplayed::OutOfRange);
-    }
+    let (master, addr) = (words.number_16(), words.addr());
+    let (down, leader) = (words.says(b"down", b"up"), words.maybe_id());
     Ok(Body::Answer {
-        master: number_16(master)?,
-        addr: addr(about)?,
-        down: says(down, "down", "up")?,
-        leader: maybe_id(leader)?,
-        epoch,
+        master,
+        addr,
+        down,
+        leader,
+        epoch: words.epoch()?,
     })
 }
 
@@ -62,8 +52,10 @@ fn ping_text(word: &[u8]) -> Result<Body, Unplayed>
     ensures epochs { IfOk result AnswersWithin }
     ensures writable { IfOk result IsWritable }
 {
-    let [mark, line @ ..] = word else {
-        return Err(Unplayed::WrongWords);
+    let (is_error, line) = match word {
+        [b'-', line @ ..] => (true, line),
+        [b'+', line @ ..] => (false, line),
+        _ => return Err(Unplayed::WrongWords),
     };
     let Some(text) = ShortText::from_slice(line) else {
         return Err(Unplayed::WrongWords);
@@ -71,10 +63,7 @@ fn ping_text(word: &[u8]) -> Result<Body, Unplayed>
     if !is_line(text.as_slice()) {
         return Err(Unplayed::OutOfRange);
     }
-    Ok(Body::PingText {
-        is_error: says(&[*mark], "-", "+")?,
-        text,
-    })
+    Ok(Body::PingText { is_error, text })
 }
 
 /// The INFO of these bytes.
@@ -100,31 +89,25 @@ fn hello(bytes: &[u8]) -> Result<Hello, Unplayed>
 }
 
 /// The configuration of a master with a number: its epoch and address.
-fn shown(words: &[Vec<u8>]) -> Result<Shown, Unplayed>
+fn shown(words: &mut Words) -> Result<Shown, Unplayed>
     ensures { IfOk result HasEpochWithin }
 {
-    let [master, epoch, at] = words else {
-        return Err(Unplayed::WrongWords);
-    };
-    let epoch = number(epoch)?;
-    if epoch > MAX_EPOCH {
-        return Err(Unplayed::OutOfRange);
-    }
     Ok(Shown {
-        master: number_16(master)?,
+        master: words.number_16(),
         card: Card {
-            epoch,
-            addr: addr(at)?,
+            epoch: words.epoch()?,
+            addr: words.addr(),
         },
     })
 }
 
-/// The answer of a port with these bytes, which shows no configuration or one.
-fn port_reply(alloc: Global, bytes: &[u8], words: &[Vec<u8>]) -> Result<Body, Unplayed>
+/// The answer of a port with the bytes of the next word, which shows no configuration or one.
+fn port_reply(alloc: Global, words: &mut Words) -> Result<Body, Unplayed>
     ensures within { IfOk result IsWithinBody }
     ensures epochs { IfOk result AnswersWithin }
     ensures writable { IfOk result IsWritable }
 {
+    let bytes = words.next();
     let mut list = Vec::new(alloc);
     if !words.is_empty() {
         list.push(shown(words)?)?;
@@ -135,21 +118,33 @@ fn port_reply(alloc: Global, bytes: &[u8], words: &[Vec<u8>]) -> Result<Body, Un
     })
 }
 
-/// The role of a master, or of a replica of the one at an address, with an offset.
-fn role(words: &[Vec<u8>]) -> Result<Body, Unplayed>
+/// The answer with an address, which shows no configuration or one.
+fn address_answer(words: &mut Words) -> Result<Body, Unplayed>
     ensures within { IfOk result IsWithinBody }
     ensures epochs { IfOk result AnswersWithin }
     ensures writable { IfOk result IsWritable }
 {
-    let role = match words {
-        [offset] => Role::Master {
-            offset: number(offset)?,
-        },
-        [at, offset] => Role::Replica {
-            addr: addr(at)?,
-            offset: number(offset)?,
-        },
-        _ => return Err(Unplayed::WrongWords),
+    if words.is_empty() {
+        return Ok(Body::AddressAnswer(None));
+    }
+    Ok(Body::AddressAnswer(Some(shown(words)?)))
+}
+
+/// The role of a master, or of a replica of the one at an address, with an offset.
+fn role(words: &mut Words) -> Result<Body, Unplayed>
+    ensures within { IfOk result IsWithinBody }
+    ensures epochs { IfOk result AnswersWithin }
+    ensures writable { IfOk result IsWritable }
+{
+    let role = if words.len() == 1 {
+        Role::Master {
+            offset: words.number(),
+        }
+    } else {
+        Role::Replica {
+            addr: words.addr(),
+            offset: words.number(),
+        }
     };
     if !roles::can_be_written(&role) {
         return Err(Unplayed::OutOfRange);
@@ -158,34 +153,27 @@ fn role(words: &[Vec<u8>]) -> Result<Body, Unplayed>
 }
 
 /// What a message says: the kind of it, and what goes with that.
-pub(crate) fn body(alloc: Global, words: &[Vec<u8>]) -> Result<Body, Unplayed>
+pub(crate) fn body(alloc: Global, words: &mut Words) -> Result<Body, Unplayed>
     ensures within { IfOk result IsWithinBody }
     ensures epochs { IfOk result AnswersWithin }
     ensures writable { IfOk result IsWritable }
 {
-    let [kind, words @ ..] = words else {
-        return Err(Unplayed::WrongWords);
-    };
-    match (text(kind)?, words) {
-        ("Ask", words) => ask(words),
-        ("Answer", words) => answer(words),
-        ("Ping", []) => Ok(Body::Ping),
-        ("PingText", [line]) => ping_text(line),
-        ("InfoAsk", []) => Ok(Body::InfoAsk),
-        ("InfoText", [bytes]) => info(bytes),
-        ("Publish", [bytes]) => Ok(Body::Publish(hello(bytes)?)),
-        ("HelloText", [bytes]) => Ok(Body::HelloText(hello(bytes)?)),
-        ("ReplicaOf", [master]) => Ok(Body::ReplicaOf(maybe_addr(master)?)),
-        ("AddressAsk", [name]) => match Name::from_slice(name) {
-            Some(name) => Ok(Body::AddressAsk(name)),
-            None => Err(Unplayed::WrongWords),
-        },
-        ("AddressAnswer", []) => Ok(Body::AddressAnswer(None)),
-        ("AddressAnswer", words) => Ok(Body::AddressAnswer(Some(shown(words)?))),
-        ("PortReply", [bytes, words @ ..]) => port_reply(alloc, bytes, words),
-        ("RoleAsk", []) => Ok(Body::RoleAsk),
-        ("RoleText", words) => role(words),
-        ("Done", []) => Ok(Body::Done),
+    match words.text() {
+        "Ask" => ask(words),
+        "Answer" => answer(words),
+        "Ping" => Ok(Body::Ping),
+        "PingText" => ping_text(words.next()),
+        "InfoAsk" => Ok(Body::InfoAsk),
+        "InfoText" => info(words.next()),
+        "Publish" => Ok(Body::Publish(hello(words.next())?)),
+        "HelloText" => Ok(Body::HelloText(hello(words.next())?)),
+        "ReplicaOf" => Ok(Body::ReplicaOf(words.maybe_addr())),
+        "AddressAsk" => Ok(Body::AddressAsk(name(words)?)),
+        "AddressAnswer" => address_answer(words),
+        "PortReply" => port_reply(alloc, words),
+        "RoleAsk" => Ok(Body::RoleAsk),
+        "RoleText" => role(words),
+        "Done" => Ok(Body::Done),
         _ => Err(Unplayed::WrongWords),
     }
 }

@@ -1,44 +1,45 @@
 //! A list that cuts what has no room.
 
 use crate::told::{Told, Unplayed};
+use crate::words::Words;
 use bounded_list::BoundedList;
 use std::alloc::Global;
 
-/// Tells a list of at most five bytes after each of these pieces, the last of which is one byte; then when it is
-/// cleared and holds another one, and as an empty list in its room.
-fn tell(
-    alloc: Global,
-    pieces: &[Vec<u8>],
-    last: u8,
-    other: u8,
-    told: &mut Told,
-) -> Result<(), Unplayed> {
-    let mut list: BoundedList<u8, 5> = BoundedList::with_room(alloc)?;
-    for piece in pieces {
-        list.extend_from_slice(piece);
-        told.bytes(list.as_slice())?;
+/// The byte that a word is.
+fn byte(words: &mut Words) -> Result<u8, Unplayed> {
+    match words.next() {
+        [byte] => Ok(*byte),
+        _ => Err(Unplayed::WrongWords),
     }
-    list.push(last);
-    told.bytes(list.as_slice())?;
+}
+
+/// Tells a list of at most five bytes after each of the words but the last two, and after the first of these, which are
+/// one byte each; then when it is cleared and holds the second, and as an empty list in its room.
+fn tell(alloc: Global, words: &mut Words, told: &mut Told) -> Result<(), Unplayed> {
+    let mut list: BoundedList<u8, 5> = BoundedList::with_room(alloc)?;
+    for _ in 2..words.len() {
+        list.extend_from_slice(words.next());
+        told.bytes(list.as_slice());
+    }
+    list.push(byte(words)?);
+    told.bytes(list.as_slice());
     list.clear();
-    list.push(other);
-    told.bytes(list.as_slice())?;
+    list.push(byte(words)?);
+    told.bytes(list.as_slice());
     let again: BoundedList<u8, 5> = BoundedList::from_vec(list.into_vec());
-    told.bytes(again.as_slice())
+    told.bytes(again.as_slice());
+    Ok(())
 }
 
 /// Tells what comes of a call with these words.
 pub(crate) fn play(
     alloc: Global,
     call: &str,
-    words: &[Vec<u8>],
+    words: &mut Words,
     told: &mut Told,
 ) -> Result<(), Unplayed> {
-    match (call, words) {
-        ("list_of_5", [pieces @ .., last, other]) => match (last.as_slice(), other.as_slice()) {
-            ([last], [other]) => tell(alloc, pieces, *last, *other, told),
-            _ => Err(Unplayed::WrongWords),
-        },
+    match call {
+        "list_of_5" => tell(alloc, words, told),
         _ => Err(Unplayed::NoSuchCall),
     }
 }

@@ -1,8 +1,8 @@
 //! Streams that come in pieces, and readers and writers that fail.
 
-use crate::given::{number, says, text};
 use crate::sentinels::Lone;
 use crate::told::{Told, Unplayed};
+use crate::words::Words;
 use sentinel_core::{ServeFault, Served};
 use std::alloc::Global;
 use std::io::{self, Cursor, ErrorKind, Read, Write};
@@ -24,6 +24,56 @@ const WHOLE: Breach = Breach {
     left: usize::MAX,
     fault: None,
 };
+
+/// What of a stream breaks after a number of bytes.
+#[derive(Clone, Copy)]
+enum Breaks {
+    Nothing,
+    Read,
+    Write,
+    Both,
+}
+
+/// In which way a stream is served, after whatever number of bytes.
+#[derive(Clone, Copy)]
+struct Way {
+    breaks: Breaks,
+    /// How many bytes come a time, where it is a write that breaks.
+    read: usize,
+    /// How many bytes are moved a time of what breaks.
+    size: usize,
+    /// By which fault a write breaks.
+    fault: Option<ErrorKind>,
+}
+
+/// Nothing breaks, but that the first read gives so many bytes.
+const UNBROKEN: Way = Way {
+    breaks: Breaks::Nothing,
+    read: usize::MAX,
+    size: usize::MAX,
+    fault: None,
+};
+
+impl Way {
+    /// Reads, so many bytes a time.
+    fn reading(breaks: Breaks, size: usize) -> Way {
+        Way {
+            breaks,
+            size,
+            ..UNBROKEN
+        }
+    }
+
+    /// Reads of so many bytes a time, and writes of so many, which break by this fault.
+    fn writing(read: usize, size: usize, fault: Option<ErrorKind>) -> Way {
+        Way {
+            breaks: Breaks::Write,
+            read,
+            size,
+            fault,
+        }
+    }
+}
 
 /// A reader of these bytes.
 #[derive(Drop)]
@@ -122,18 +172,14 @@ pub(crate) struct BrokenStreams {
     ends: Vec<End>,
 }
 
-/// The number of bytes that a word is.
-fn count(word: &[u8]) -> Result<usize, Unplayed> {
-    Ok(number(word)? as usize)
-}
-
-/// The kind of error that a word names; none for `nothing`.
-fn fault(word: &[u8]) -> Result<Option<ErrorKind>, Unplayed> {
-    match text(word)? {
-        "StorageFull" => Ok(Some(ErrorKind::StorageFull)),
-        "BrokenPipe" => Ok(Some(ErrorKind::BrokenPipe)),
-        "nothing" => Ok(None),
-        _ => Err(Unplayed::WrongWords),
+/// The kind of error that the next word names; none for `nothing`.
+fn fault(words: &mut Words) -> Option<ErrorKind> {
+    if words.begin_with(b"StorageFull") {
+        Some(ErrorKind::StorageFull)
+    } else if words.says(b"BrokenPipe", b"nothing") {
+        Some(ErrorKind::BrokenPipe)
+    } else {
+        None
     }
 }
 
@@ -151,9 +197,9 @@ impl BrokenStreams {
     }
 
     /// Begins anew with the file of each Sentinel.
-    fn begin(&mut self, conf: &[u8], is_twice: bool) -> Result<(), Unplayed> {
-        self.conf = Vec::from_slice(self.alloc, conf)?;
-        self.is_twice = is_twice;
+    fn begin(&mut self, words: &mut Words) -> Result<(), Unplayed> {
+        self.conf = Vec::from_slice(self.alloc, words.next())?;
+        self.is_twice = words.says(b"twice", b"once");
         self.asks.clear();
         self.answers.clear();
         self.ends.clear();
@@ -170,7 +216,7 @@ impl BrokenStreams {
             return Err(Unplayed::OutOfRange);
         }
         match written.strip_prefix(self.answers.as_slice()) {
-            Some(answer) => told.bytes(answer)?,
+            Some(answer) => told.bytes(answer),
             None => return Err(Unplayed::Changed),
         }
         self.answers = written;
@@ -237,7 +283,7 @@ impl BrokenStreams {
         }
     }
 
-    /// The stream as it is served where a read fails after this number of bytes.
+    /// The stream as it is served where a read of bytes, so many a time, fails after this number of them.
     fn read_failed(&self, size: usize, left: usize) -> Trial {
         let left = left.min(self.asks.len());
         Trial {
@@ -268,71 +314,51 @@ impl BrokenStreams {
         }
     }
 
-    /// The stream as it is served where a write fails.
-    fn write_failed(&self, read: usize, write: Breach) -> Trial {
+    /// The stream as it is served where a write fails after this number of bytes.
+    fn write_failed(&self, way: Way, left: usize) -> Trial {
         Trial {
             read: Breach {
-                size: read,
+                size: way.read,
                 ..WHOLE
             },
-            write,
+            write: Breach {
+                size: way.size,
+                left,
+                fault: way.fault,
+            },
             end: Err(ServeFault::Write),
-            written: write.left,
+            written: left,
         }
     }
 
-    /// How a stream is served after this number of bytes, by a call with these words.
-    fn trial(&self, call: &str, words: &[Vec<u8>], left: usize) -> Result<Trial, Unplayed> {
-        match (call, words) {
-            ("each_cut", []) => Ok(self.read_whole(Breach { left, ..WHOLE })),
-            ("in_pieces", [size]) => Ok(self.read_whole(Breach {
-                size: count(size)?,
-                ..WHOLE
-            })),
-            ("each_read_fails", [size]) => Ok(self.read_failed(count(size)?, left)),
-            ("each_interruption", []) => Ok(self.interrupted(left)),
-            ("each_write_fails", [read, size, kind]) => Ok(self.write_failed(
-                count(read)?,
-                Breach {
-                    size: count(size)?,
-                    left,
-                    fault: fault(kind)?,
-                },
-            )),
-            ("each_room", [kind]) => {
-                let fault = fault(kind)?;
-                Ok(self.write_failed(
-                    usize::MAX,
-                    Breach {
-                        left,
-                        fault,
-                        ..WHOLE
-                    },
-                ))
-            }
-            _ => Err(Unplayed::NoSuchCall),
+    /// How a stream is served in a way after this number of bytes.
+    fn trial(&self, way: Way, left: usize) -> Trial {
+        match way.breaks {
+            Breaks::Nothing => self.read_whole(Breach {
+                size: way.size,
+                left,
+                fault: None,
+            }),
+            Breaks::Read => self.read_failed(way.size, left),
+            Breaks::Both => self.interrupted(left),
+            Breaks::Write => self.write_failed(way, left),
         }
     }
 
-    /// Serves the stream in each way of a call, after each number of bytes, up to a place. Tells how many these were,
-    /// or the first that isn't served so.
-    fn try_each(
-        &self,
-        call: &str,
-        words: &[Vec<u8>],
-        step: usize,
-        end: usize,
-        told: &mut Told,
-    ) -> Result<(), Unplayed> {
+    /// Serves the stream in a way, after each number of bytes that is a multiple of the step, up to a place. Tells how
+    /// many these were, or the first that isn't served so.
+    fn try_each(&self, way: Way, step: usize, end: usize, told: &mut Told) -> Result<(), Unplayed> {
         let mut tried: u64 = 0;
         for left in (0..end).step_by(step.max(1)) {
-            if !self.stands(&self.trial(call, words, left)?)? {
-                told.word("otherwise-behind")?;
-                return told.number(left as u64);
+            if !self.stands(&self.trial(way, left))? {
+                told.word("otherwise-behind");
+                told.number(left);
+                return Ok(());
             }
             tried = tried.saturating_add(1);
         }
-        told.number(tried)
+        told.number(tried);
+        Ok(())
     }
 
     /// Tells how a stream without bytes is served whose reader is interrupted this number of times, and how many reads
@@ -345,42 +371,52 @@ impl BrokenStreams {
         };
         let mut written = Vec::new(self.alloc);
         match lone.serve(0, &mut reader, &mut written)? {
-            Ok(served) => told.number(served.answers)?,
+            Ok(served) => told.number(served.answers),
             Err(ServeFault::NoMemory) => return Err(Unplayed::NoMemory),
-            Err(fault) => told.shown(&fault)?,
+            Err(fault) => told.shown(&fault),
         }
-        told.number(reader.reads)
+        told.number(reader.reads);
+        Ok(())
+    }
+
+    /// Tells in how many places a stream can be served in the way of a call.
+    fn play_each(&self, call: &str, words: &mut Words, told: &mut Told) -> Result<(), Unplayed> {
+        let (asks, answers) = (self.asks.len(), self.answers.len());
+        match call {
+            "each_cut" => self.try_each(UNBROKEN, 1, asks, told),
+            "in_pieces" => self.try_each(Way::reading(Breaks::Nothing, words.size()), 1, 1, told),
+            "each_read_fails" => {
+                let way = Way::reading(Breaks::Read, words.size());
+                self.try_each(way, way.size, asks.saturating_add(way.size), told)
+            }
+            "each_interruption" => {
+                let way = Way::reading(Breaks::Both, 1);
+                self.try_each(way, 1, asks.saturating_add(1), told)
+            }
+            "each_write_fails" => {
+                let way = Way::writing(words.size(), words.size(), fault(words));
+                self.try_each(way, way.size, answers, told)
+            }
+            "each_room" => {
+                let way = Way::writing(usize::MAX, usize::MAX, fault(words));
+                self.try_each(way, 1, answers, told)
+            }
+            _ => Err(Unplayed::NoSuchCall),
+        }
     }
 
     /// Tells what comes of a call with these words.
     pub(crate) fn play(
         &mut self,
         call: &str,
-        words: &[Vec<u8>],
+        words: &mut Words,
         told: &mut Told,
     ) -> Result<(), Unplayed> {
-        let (asks, answers) = (self.asks.len(), self.answers.len());
-        match (call, words) {
-            ("conf", [conf, times]) => {
-                self.begin(conf, says(times, "twice", "once")?)?;
-                told.ok()
-            }
-            ("exchange", [ask]) => self.exchange(ask, told),
-            ("each_cut", []) => self.try_each(call, words, 1, asks, told),
-            ("in_pieces", [_]) => self.try_each(call, words, 1, 1, told),
-            ("each_read_fails", [size]) => {
-                let size = count(size)?;
-                self.try_each(call, words, size, asks.saturating_add(size), told)
-            }
-            ("each_interruption", []) => {
-                self.try_each(call, words, 1, asks.saturating_add(1), told)
-            }
-            ("each_write_fails", [_, size, _]) => {
-                self.try_each(call, words, count(size)?, answers, told)
-            }
-            ("each_room", [_]) => self.try_each(call, words, 1, answers, told),
-            ("interrupted", [times]) => self.tell_interrupted(number(times)?, told),
-            _ => Err(Unplayed::NoSuchCall),
+        match call {
+            "conf" => self.begin(words),
+            "exchange" => self.exchange(words.next(), told),
+            "interrupted" => self.tell_interrupted(words.number(), told),
+            _ => self.play_each(call, words, told),
         }
     }
 }

@@ -1,7 +1,7 @@
 //! A client's search for a master.
 
-use crate::given::{addr, number, says};
 use crate::told::{Told, Unplayed};
+use crate::words::Words;
 use ballot_law::Addr;
 use client_queries::{Move, Quest, QuestFault};
 use std::alloc::Global;
@@ -13,44 +13,46 @@ pub(crate) struct Searches {
     quest: Option<Quest>,
 }
 
+/// Tells a move of this name to an address.
+fn tell_to(name: &str, addr: Addr, told: &mut Told) {
+    told.word(name);
+    told.address(addr);
+}
+
 /// Tells a move; a Sentinel that is asked by its place in the list and its address.
-fn tell_move(quest: &Quest, told: &mut Told) -> Result<(), Unplayed> {
-    let (name, addr) = match quest.next_move() {
+fn tell_move(quest: &Quest, told: &mut Told) {
+    match quest.next_move() {
         Move::Ask(place) => {
-            told.word("ask")?;
-            told.number(place as u64)?;
-            let addr = quest.at(place).ok_or(Unplayed::OutOfRange)?;
-            return told.address(addr);
+            told.word("ask");
+            told.number(place);
+            told.maybe_address(quest.at(place));
         }
-        Move::Connect(addr) => ("connect", Some(addr)),
-        Move::CheckRole(addr) => ("check", Some(addr)),
-        Move::Wait => ("wait", None),
-        Move::NoSentinel => ("no-sentinel", None),
-        Move::Done(addr) => ("done", Some(addr)),
-    };
-    told.word(name)?;
-    match addr {
-        Some(addr) => told.address(addr),
-        None => Ok(()),
+        Move::Connect(addr) => tell_to("connect", addr, told),
+        Move::CheckRole(addr) => tell_to("check", addr, told),
+        Move::Wait => told.word("wait"),
+        Move::NoSentinel => told.word("no-sentinel"),
+        Move::Done(addr) => tell_to("done", addr, told),
     }
 }
 
+/// Has the search fail so many times: whether the last can come of its move.
+fn fail(quest: &mut Quest, times: u64) -> bool {
+    let mut fits = true;
+    for _ in 0..times {
+        fits = quest.failed();
+    }
+    fits
+}
+
 /// Has the search hear what came of its last move: whether that can come of it.
-fn hear(quest: &mut Quest, call: &str, words: &[Vec<u8>]) -> Result<bool, Unplayed> {
-    match (call, words) {
-        ("answered", [word]) if word.as_slice() == b"None".as_slice() => Ok(quest.answered(None)),
-        ("answered", [word]) => Ok(quest.answered(Some(addr(word)?))),
-        ("connected", []) => Ok(quest.connected()),
-        ("failed", []) => Ok(quest.failed()),
-        ("failed_times", [times]) => {
-            let mut fits = true;
-            for _ in 0..number(times)? {
-                fits = quest.failed();
-            }
-            Ok(fits)
-        }
-        ("role", [word]) => Ok(quest.role_was(says(word, "master", "slave")?)),
-        ("waited", []) => Ok(quest.waited()),
+fn hear(quest: &mut Quest, call: &str, words: &mut Words) -> Result<bool, Unplayed> {
+    match call {
+        "answered" => Ok(quest.answered(words.maybe_addr())),
+        "connected" => Ok(quest.connected()),
+        "failed" => Ok(quest.failed()),
+        "failed_times" => Ok(fail(quest, words.number())),
+        "role" => Ok(quest.role_was(words.says(b"master", b"slave"))),
+        "waited" => Ok(quest.waited()),
         _ => Err(Unplayed::NoSuchCall),
     }
 }
@@ -65,43 +67,56 @@ impl Searches {
     fn begin(&mut self, list: &[Addr], told: &mut Told) -> Result<(), Unplayed> {
         match Quest::new(self.alloc, list) {
             Ok(quest) => {
-                tell_move(&quest, told)?;
+                tell_move(&quest, told);
                 self.quest = Some(quest);
-                Ok(())
             }
             Err(QuestFault::Empty) => told.word("Empty"),
             Err(QuestFault::TooMany) => told.word("TooMany"),
-            Err(QuestFault::NoMemory) => Err(Unplayed::NoMemory),
+            Err(QuestFault::NoMemory) => return Err(Unplayed::NoMemory),
         }
+        Ok(())
+    }
+
+    /// A search begins over the Sentinels that the words are.
+    fn search(&mut self, words: &mut Words, told: &mut Told) -> Result<(), Unplayed> {
+        let mut list = Vec::new(self.alloc);
+        for _ in 0..words.len() {
+            list.push(words.addr())?;
+        }
+        self.begin(&list, told)
+    }
+
+    /// A search begins over so many Sentinels at one address.
+    fn search_alike(&mut self, words: &mut Words, told: &mut Told) -> Result<(), Unplayed> {
+        let (count, addr) = (words.number(), words.addr());
+        let mut list = Vec::new(self.alloc);
+        for _ in 0..count {
+            list.push(addr)?;
+        }
+        self.begin(&list, told)
+    }
+
+    /// Tells what the search does once it heard what came of its last move.
+    fn go_on(&mut self, call: &str, words: &mut Words, told: &mut Told) -> Result<(), Unplayed> {
+        let quest = self.quest.as_mut().ok_or(Unplayed::OutOfRange)?;
+        if !hear(quest, call, words)? {
+            told.word("no");
+        }
+        tell_move(quest, told);
+        Ok(())
     }
 
     /// Tells what comes of a call with these words.
     pub(crate) fn play(
         &mut self,
         call: &str,
-        words: &[Vec<u8>],
+        words: &mut Words,
         told: &mut Told,
     ) -> Result<(), Unplayed> {
-        let mut list = Vec::new(self.alloc);
-        match (call, words) {
-            ("search", words) => {
-                for word in words {
-                    list.push(addr(word)?)?;
-                }
-                return self.begin(&list, told);
-            }
-            ("search_alike", [count, word]) => {
-                for _ in 0..number(count)? {
-                    list.push(addr(word)?)?;
-                }
-                return self.begin(&list, told);
-            }
-            _ => {}
+        match call {
+            "search" => self.search(words, told),
+            "search_alike" => self.search_alike(words, told),
+            _ => self.go_on(call, words, told),
         }
-        let quest = self.quest.as_mut().ok_or(Unplayed::OutOfRange)?;
-        if !hear(quest, call, words)? {
-            told.word("no")?;
-        }
-        tell_move(quest, told)
     }
 }

@@ -3,8 +3,8 @@
 ghost use Rattle.std.specs.Prelude.{IsTrue};
 ghost use Rattle.sentinel_conf.specs.Rewritten.{IsKeptMaster, IsKeptPart};
 
-use crate::given::{address, is_in, joined, maybe_id, number};
 use crate::told::{Told, Unplayed};
+use crate::words::{Words, is_in};
 use ballot_law::{Card, Kept, KeptMaster, KeptMasters, MAX_EPOCH, Watched};
 use conf_lines::{ConfFault, ConfKind};
 use sentinel_conf::{Conf, ConfText, Settings, read, rewrite_into};
@@ -36,12 +36,12 @@ pub(crate) fn conf_of(alloc: Global, text: &[u8]) -> Result<Box<Conf>, Unplayed>
 }
 
 /// Tells the settings of a master, if it is one.
-fn tell_settings(settings: Option<Settings>, told: &mut Told) -> Result<(), Unplayed> {
+fn tell_settings(settings: Option<Settings>, told: &mut Told) {
     match settings {
         Some(settings) => {
-            told.number(settings.after_ms)?;
-            told.number(settings.parallel_syncs)?;
-            told.number(settings.timeout)
+            told.number(settings.after_ms);
+            told.number(settings.parallel_syncs);
+            told.number(settings.timeout);
         }
         None => told.word("None"),
     }
@@ -49,51 +49,50 @@ fn tell_settings(settings: Option<Settings>, told: &mut Told) -> Result<(), Unpl
 
 /// Tells the place of the Sentinel, its port and its current epoch, how many masters it keeps, how many Sentinels there
 /// are, and the settings of the first two masters.
-fn tell_conf(conf: &Conf, told: &mut Told) -> Result<(), Unplayed> {
-    told.number(u64::from(conf.place()))?;
-    told.number(u64::from(conf.port()))?;
-    told.number(conf.kept().current)?;
-    told.number(conf.kept().masters.as_slice().len() as u64)?;
-    told.number(conf.roster().sentinels().len() as u64)?;
-    tell_settings(conf.settings(0), told)?;
-    tell_settings(conf.settings(1), told)
+fn tell_conf(conf: &Conf, told: &mut Told) {
+    told.number(conf.place());
+    told.number(conf.port());
+    told.number(conf.kept().current);
+    told.number(conf.kept().masters.as_slice().len());
+    told.number(conf.roster().sentinels().len());
+    tell_settings(conf.settings(0), told);
+    tell_settings(conf.settings(1), told);
 }
 
 /// Tells what a text says and how many masters there are, or its fault and the line of that.
-fn tell_read(alloc: Global, text: &[u8], told: &mut Told) -> Result<(), Unplayed> {
+fn tell_read(alloc: Global, text: &[u8], told: &mut Told) {
     match conf_at_last(alloc, text) {
         Ok(conf) => {
-            tell_conf(&conf, told)?;
+            tell_conf(&conf, told);
             let roster = Box::into_inner(conf).into_roster();
-            told.number(roster.masters().len() as u64)
+            told.number(roster.masters().len());
         }
         Err(fault) => {
-            told.shown(&fault)?;
-            told.word("at")?;
-            told.number(fault.line)
+            told.shown(&fault);
+            told.word("at");
+            told.number(fault.line);
         }
     }
 }
 
 /// Tells how many beginnings of a text are refused with one of these faults, or the first that isn't and what comes of
 /// it.
-fn tell_beginnings(
-    alloc: Global,
-    text: &[u8],
-    faults: &[Vec<u8>],
-    told: &mut Told,
-) -> Result<(), Unplayed> {
+fn tell_beginnings(alloc: Global, words: &mut Words, told: &mut Told) -> Result<(), Unplayed> {
+    let (text, faults) = (words.next(), words.rest());
     for end in 0..text.len() {
         let mut beginning = Told::new(alloc);
-        tell_read(alloc, &text[..end], &mut beginning)?;
+        tell_read(alloc, &text[..end], &mut beginning);
+        beginning.whole()?;
         let fault = beginning.as_str().split(' ').next().unwrap_or("");
-        if !is_in(faults, fault) {
-            told.word(beginning.as_str())?;
-            told.word("of the first")?;
-            return told.number(end as u64);
+        if !is_in(faults, fault.as_bytes()) {
+            told.word(beginning.as_str());
+            told.word("of the first");
+            told.number(end);
+            return Ok(());
         }
     }
-    told.number(text.len() as u64)
+    told.number(text.len());
+    Ok(())
 }
 
 /// Tells the candidate of the only master of a text.
@@ -101,8 +100,9 @@ fn tell_candidate(alloc: Global, text: &[u8], told: &mut Told) -> Result<(), Unp
     let conf = conf_of(alloc, text)?;
     match conf.kept().masters.as_slice() {
         [master] => told.maybe_id(master.candidate),
-        _ => Err(Unplayed::WrongWords),
+        _ => return Err(Unplayed::WrongWords),
     }
+    Ok(())
 }
 
 /// Tells a conf as it is rewritten with this.
@@ -111,7 +111,8 @@ fn tell_rewritten(alloc: Global, conf: &Conf, kept: &Kept, told: &mut Told) -> R
 {
     let mut text = ConfText::room_for(alloc, conf)?;
     rewrite_into(conf, kept, &mut text);
-    told.bytes(text.as_slice())
+    told.bytes(text.as_slice());
+    Ok(())
 }
 
 /// Tells a file as it is rewritten with what it holds itself.
@@ -120,19 +121,17 @@ fn tell_again(alloc: Global, text: &[u8], told: &mut Told) -> Result<(), Unplaye
     tell_rewritten(alloc, &conf, conf.kept(), told)
 }
 
-/// What is kept of the only master at this current epoch: an address, the epoch of that, the epoch of the last vote,
-/// and its candidate.
-fn kept_of(alloc: Global, current: u64, words: &[Vec<u8>]) -> Result<Kept, Unplayed> {
-    let [ip, port, epoch, voted, candidate] = words else {
-        return Err(Unplayed::WrongWords);
-    };
+/// What is kept of the only master at the current epoch that the next word is: an address, the epoch of that, the epoch
+/// of the last vote, and its candidate.
+fn kept_of(alloc: Global, words: &mut Words) -> Result<Kept, Unplayed> {
+    let (current, addr) = (words.number(), words.address());
     let master = KeptMaster {
         card: Card {
-            epoch: number(epoch)?,
-            addr: address(ip, port)?,
+            epoch: words.number(),
+            addr,
         },
-        voted: number(voted)?,
-        candidate: maybe_id(candidate)?,
+        voted: words.number(),
+        candidate: words.maybe_id(),
     };
     Ok(Kept {
         current,
@@ -162,16 +161,10 @@ fn is_kept_part(conf: &Conf, kept: &Kept) -> bool
     }
 }
 
-/// Tells a file as it is rewritten with what these words keep.
-fn tell_rewritten_with(
-    alloc: Global,
-    text: &[u8],
-    current: u64,
-    words: &[Vec<u8>],
-    told: &mut Told,
-) -> Result<(), Unplayed> {
-    let conf = conf_of(alloc, text)?;
-    let kept = kept_of(alloc, current, words)?;
+/// Tells a file as it is rewritten with what the words after it keep.
+fn tell_rewritten_with(alloc: Global, words: &mut Words, told: &mut Told) -> Result<(), Unplayed> {
+    let conf = conf_of(alloc, words.next())?;
+    let kept = kept_of(alloc, words)?;
     if !is_kept_part(&conf, &kept) {
         return Err(Unplayed::WrongWords);
     }
@@ -182,19 +175,16 @@ fn tell_rewritten_with(
 pub(crate) fn play(
     alloc: Global,
     call: &str,
-    words: &[Vec<u8>],
+    words: &mut Words,
     told: &mut Told,
 ) -> Result<(), Unplayed> {
-    match (call, words) {
-        ("read", words) => tell_read(alloc, &joined(alloc, words)?, told),
-        ("candidate", words) => tell_candidate(alloc, &joined(alloc, words)?, told),
-        ("read_each_beginning", [text, faults @ ..]) => {
-            tell_beginnings(alloc, text, faults, told)
-        }
-        ("rewrite", words) => tell_again(alloc, &joined(alloc, words)?, told),
-        ("rewrite_with", [text, current, kept @ ..]) => {
-            tell_rewritten_with(alloc, text, number(current)?, kept, told)
-        }
-        _ => Err(Unplayed::NoSuchCall),
+    match call {
+        "read" => tell_read(alloc, &words.joined(alloc)?, told),
+        "candidate" => tell_candidate(alloc, &words.joined(alloc)?, told)?,
+        "read_each_beginning" => tell_beginnings(alloc, words, told)?,
+        "rewrite" => tell_again(alloc, &words.joined(alloc)?, told)?,
+        "rewrite_with" => tell_rewritten_with(alloc, words, told)?,
+        _ => return Err(Unplayed::NoSuchCall),
     }
+    Ok(())
 }

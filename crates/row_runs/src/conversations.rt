@@ -3,8 +3,8 @@
 ghost use Rattle.std.specs.Prelude.{◌≡◌, IfOk};
 ghost use Rattle.sentinel_outbox.specs.declared.phase.Phase.TheVariants.{Ready};
 
-use crate::given::{number, number_16, says};
 use crate::told::{Told, Unplayed};
+use crate::words::Words;
 use ballot_law::{Addr, Card, Note, Text};
 use courteous_sessions::ClientSession;
 use sentinel_cell::{CellFault, Seat, SharedSentinel};
@@ -67,15 +67,24 @@ fn opened(alloc: Global, file: &[u8], courteous: bool) -> Result<Sentinel, Unpla
     }
 }
 
-/// Tells the share of the first seat of a Sentinel that is shared by this number of seats, or why it isn't shared so.
-fn tell_seats(alloc: Global, file: &[u8], seats: u64, told: &mut Told) -> Result<(), Unplayed> {
+/// The share of the first seat of a Sentinel that is shared by this number of seats, or why it isn't shared so.
+fn share_of(alloc: Global, file: &[u8], seats: u64) -> Result<Result<u64, CellFault>, Unplayed> {
     let store = store(alloc, file, false)?;
     let sentinel = opened(alloc, file, false)?;
     match SharedSentinel::new(alloc, sentinel, store, seats) {
-        Ok((_, seat)) => told.number(seat.share()),
-        Err((_, CellFault::NoMemory)) => Err(Unplayed::NoMemory),
-        Err((_, fault)) => told.shown(&fault),
+        Ok((_, seat)) => Ok(Ok(seat.share())),
+        Err((_, fault)) => Ok(Err(fault)),
     }
+}
+
+/// Tells it.
+fn tell_seats(alloc: Global, words: &mut Words, told: &mut Told) -> Result<(), Unplayed> {
+    match share_of(alloc, words.next(), words.number())? {
+        Ok(share) => told.number(share),
+        Err(CellFault::NoMemory) => return Err(Unplayed::NoMemory),
+        Err(fault) => told.shown(&fault),
+    }
+    Ok(())
 }
 
 /// A store with this text, which refuses its first text if that is wanted.
@@ -89,13 +98,14 @@ fn store(alloc: Global, file: &[u8], refuses: bool) -> Result<MemoryStore, Unpla
     Ok(store)
 }
 
-/// Tells how a piece is taken.
+/// Tells how a piece is taken, where there is a fault.
 fn tell_end(end: Result<(), ServeFault>, told: &mut Told) -> Result<(), Unplayed> {
     match end {
-        Ok(()) => told.ok(),
-        Err(ServeFault::NoMemory) => Err(Unplayed::NoMemory),
+        Ok(()) => {}
+        Err(ServeFault::NoMemory) => return Err(Unplayed::NoMemory),
         Err(fault) => told.shown(&fault),
     }
+    Ok(())
 }
 
 /// The note that the first master moved to the node with this port.
@@ -170,11 +180,11 @@ impl Talk {
     }
 
     /// Tells the last request for a vote of the first client that was too far ahead, if there was one.
-    fn tell_far(&mut self, told: &mut Told) -> Result<(), Unplayed> {
+    fn tell_far(&mut self, told: &mut Told) {
         match self.first.take_far() {
             Some(request) => {
-                told.bytes(run_id_text(request.candidate).as_slice())?;
-                told.number(request.epoch)
+                told.id(request.candidate);
+                told.number(request.epoch);
             }
             None => told.word("none"),
         }
@@ -186,7 +196,8 @@ impl Talk {
         if !self.first.unsent().starts_with(&self.part) {
             return Err(Unplayed::Changed);
         }
-        told.bytes(self.first.unsent())
+        told.bytes(self.first.unsent());
+        Ok(())
     }
 
     /// The second client does.
@@ -217,13 +228,35 @@ impl Talk {
         true
     }
 
-    /// The first client is told of a note where it is due.
-    fn hear(&mut self, note: &Note, entry: u64) -> Result<bool, Unplayed> {
+    /// The first client is told of a note where it is due; tells whether it was.
+    fn hear(&mut self, words: &mut Words, told: &mut Told) -> Result<(), Unplayed> {
+        let note = moved(words.number(), words.number_16());
         let roster = self.cell.roster();
         if note.master as usize >= roster.masters().len() {
             return Err(Unplayed::OutOfRange);
         }
-        Ok(self.first.notify(roster, note, entry)?)
+        told.yes(self.first.notify(roster, &note, words.number())?);
+        Ok(())
+    }
+
+    /// Tells what comes of a piece that a client sends, if a call is that. Whether it is.
+    fn play_piece<R: Wait>(
+        &mut self,
+        rt: &R,
+        call: &str,
+        words: &mut Words,
+        told: &mut Told,
+    ) -> Result<bool, Unplayed> {
+        match call {
+            "says" => self.tell_said(rt, words.next(), told)?,
+            "other_says" => tell_end(self.other_say(rt, words.next()), told)?,
+            "says_in_pieces" => {
+                let size = words.size();
+                tell_end(self.say_in_pieces(rt, size, words.next()), told)?;
+            }
+            _ => return Ok(false),
+        }
+        Ok(true)
     }
 
     /// Tells what comes of a call with these words.
@@ -231,38 +264,24 @@ impl Talk {
         &mut self,
         rt: &R,
         call: &str,
-        words: &[Vec<u8>],
+        words: &mut Words,
         told: &mut Told,
     ) -> Result<(), Unplayed> {
-        match (call, words) {
-            ("says", [piece]) => self.tell_said(rt, piece, told),
-            ("other_says", [piece]) => tell_end(self.other_say(rt, piece), told),
-            ("says_in_pieces", [size, stream]) => {
-                let size = number(size)? as usize;
-                tell_end(self.say_in_pieces(rt, size, stream), told)
-            }
-            ("unsent", []) => self.tell_unsent(told),
-            ("other_unsent", []) => told.bytes(self.second.unsent()),
-            ("sent", [count]) => told.yes(self.send(number(count)? as usize)),
-            ("hears", [epoch, port, entry]) => {
-                let note = moved(number(epoch)?, number_16(port)?);
-                told.yes(self.hear(&note, number(entry)?)?)
-            }
-            ("wants_password", [password]) => {
-                self.want_password(password)?;
-                told.ok()
-            }
-            ("knows_epoch", [epoch]) => {
-                self.first.note_epoch(number(epoch)?);
-                told.ok()
-            }
-            ("far", []) => self.tell_far(told),
-            ("begins_anew", []) => {
-                self.begin_anew();
-                told.ok()
-            }
-            _ => Err(Unplayed::NoSuchCall),
+        if self.play_piece(rt, call, words, told)? {
+            return Ok(());
         }
+        match call {
+            "unsent" => self.tell_unsent(told)?,
+            "other_unsent" => told.bytes(self.second.unsent()),
+            "sent" => told.yes(self.send(words.size())),
+            "hears" => self.hear(words, told)?,
+            "wants_password" => self.want_password(words.next())?,
+            "knows_epoch" => self.first.note_epoch(words.number()),
+            "far" => self.tell_far(told),
+            "begins_anew" => self.begin_anew(),
+            _ => return Err(Unplayed::NoSuchCall),
+        }
+        Ok(())
     }
 }
 
@@ -300,19 +319,28 @@ impl Conversations {
     fn tell_cuts<R: Wait>(
         &self,
         rt: &R,
-        file: &[u8],
-        stream: &[u8],
         courteous: bool,
+        words: &mut Words,
         told: &mut Told,
     ) -> Result<(), Unplayed> {
+        let (file, stream) = (words.next(), words.next());
         let whole = self.cut(rt, file, stream, 0, courteous)?;
         for place in 1..=stream.len() {
             if self.cut(rt, file, stream, place, courteous)?.as_slice() != whole.as_slice() {
-                told.word("otherwise-cut-at")?;
-                return told.number(place as u64);
+                told.word("otherwise-cut-at");
+                told.number(place);
+                return Ok(());
             }
         }
-        told.bytes(&whole)
+        told.bytes(&whole);
+        Ok(())
+    }
+
+    /// A conversation begins.
+    fn begin(&mut self, courteous: bool, words: &mut Words) -> Result<(), Unplayed> {
+        let (file, refuses) = (words.next(), words.says(b"refuses", b"stores"));
+        self.talk = Some(Talk::boxed(self.alloc, file, refuses, courteous)?);
+        Ok(())
     }
 
     /// Tells what comes of a call with these words.
@@ -320,29 +348,19 @@ impl Conversations {
         &mut self,
         rt: &R,
         call: &str,
-        words: &[Vec<u8>],
+        words: &mut Words,
         told: &mut Told,
     ) -> Result<(), Unplayed> {
-        match (call, words) {
-            ("conversation", [file, store]) => {
-                let refuses = says(store, "refuses", "stores")?;
-                self.talk = Some(Talk::boxed(self.alloc, file, refuses, false)?);
-                told.ok()
-            }
-            ("courteous_conversation", [file, store]) => {
-                let refuses = says(store, "refuses", "stores")?;
-                self.talk = Some(Talk::boxed(self.alloc, file, refuses, true)?);
-                told.ok()
-            }
-            ("each_cut", [file, stream]) => self.tell_cuts(rt, file, stream, false, told),
-            ("each_courteous_cut", [file, stream]) => {
-                self.tell_cuts(rt, file, stream, true, told)
-            }
-            ("seats", [file, seats]) => tell_seats(self.alloc, file, number(seats)?, told),
-            _ => {
-                let talk = self.talk.as_mut().ok_or(Unplayed::OutOfRange)?;
-                talk.play(rt, call, words, told)
-            }
+        match call {
+            "conversation" => self.begin(false, words),
+            "courteous_conversation" => self.begin(true, words),
+            "each_cut" => self.tell_cuts(rt, false, words, told),
+            "each_courteous_cut" => self.tell_cuts(rt, true, words, told),
+            "seats" => tell_seats(self.alloc, words, told),
+            _ => match &mut self.talk {
+                Some(talk) => talk.play(rt, call, words, told),
+                None => Err(Unplayed::OutOfRange),
+            },
         }
     }
 }

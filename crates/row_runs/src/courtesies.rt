@@ -3,8 +3,8 @@
 ghost use Rattle.resp2.specs.Framing.Frame.{view, HasLines};
 
 use crate::commands::{array, tell_command, value_of};
-use crate::given::number_32;
 use crate::told::{Told, Unplayed};
+use crate::words::Words;
 use ballot_law::{Addr, Name, RunId, Text};
 use client_commands::{
     ClientEntry, ClientInfo, CommandReader, Courtesy, Figures, MonitoredMaster, PortFacts,
@@ -46,27 +46,29 @@ fn client(
     })
 }
 
+/// What the port of that connection has counted.
+const FIGURES: Figures = Figures {
+    process: 4_711,
+    run_id: RunId { hi: 1, lo: 2 },
+    address: Addr {
+        ip: 2_130_706_433,
+        port: 26_379,
+    },
+    clock: 100_000_999,
+    connected: 3,
+    most: 10_000,
+    received: 21,
+    rejected: 4,
+    commands: 99,
+    user_time: 1_207,
+    system_time: 30,
+    tilt: None,
+};
+
 /// What the port of that connection knows: the connection itself, one that listens to two channels, another one, and
 /// one that is gone.
 fn port(alloc: Global) -> Result<PortFacts, Unplayed> {
-    let figures = Figures {
-        process: 4_711,
-        run_id: RunId { hi: 1, lo: 2 },
-        address: Addr {
-            ip: 2_130_706_433,
-            port: 26_379,
-        },
-        clock: 100_000_999,
-        connected: 3,
-        most: 10_000,
-        received: 21,
-        rejected: 4,
-        commands: 99,
-        user_time: 1_207,
-        system_time: 30,
-        tilt: None,
-    };
-    let mut port = PortFacts::of(alloc, figures);
+    let mut port = PortFacts::of(alloc, FIGURES);
     port.clients
         .push(client(alloc, 21, b"127.0.0.1:50021", 0, 0)?)?;
     port.clients
@@ -103,7 +105,7 @@ fn locked(alloc: Global, admitted: bool) -> Result<ClientInfo, Unplayed> {
 }
 
 /// Tells what becomes of a value, and the text that goes with it.
-fn tell_kind(kind: Courtesy, text: &[u8], told: &mut Told) -> Result<(), Unplayed> {
+fn tell_kind(kind: Courtesy, text: &[u8], told: &mut Told) {
     match kind {
         Courtesy::Left => told.word("left"),
         Courtesy::Said => told.bytes(text),
@@ -111,8 +113,26 @@ fn tell_kind(kind: Courtesy, text: &[u8], told: &mut Told) -> Result<(), Unplaye
     }
 }
 
-/// Tells what becomes of a command of a connection, whether its client gave the password then that is wanted, and the
-/// name that it has.
+/// Tells whether the client of a connection gave the password that is wanted, which protocol it speaks, whom it had
+/// closed, and the name of the connection.
+fn tell_asker(asker: &ClientInfo, told: &mut Told) {
+    if asker.password.is_some() && asker.admitted {
+        told.word("admitted");
+    }
+    if !asker.protocol.is_two() {
+        told.word("speaks-3");
+    }
+    for place in asker.port.killed.as_slice() {
+        told.word("killed");
+        told.number(*place);
+    }
+    if !asker.name.as_slice().is_empty() {
+        told.word("named");
+        told.bytes(asker.name.as_slice());
+    }
+}
+
+/// Tells what becomes of a command of a connection, and what became of that.
 fn tell(
     alloc: Global,
     asker: &mut ClientInfo,
@@ -121,55 +141,42 @@ fn tell(
 ) -> Result<(), Unplayed> {
     let mut out = OutText::new(alloc);
     let kind = courtesy_of(alloc, asker, &array(alloc, words)?, &mut out)?;
-    tell_kind(kind, out.as_slice(), told)?;
-    if asker.password.is_some() && asker.admitted {
-        told.word("admitted")?;
-    }
-    if !asker.protocol.is_two() {
-        told.word("speaks-3")?;
-    }
-    for place in asker.port.killed.as_slice() {
-        told.word("killed")?;
-        told.number(*place as u64)?;
-    }
-    if asker.name.as_slice().is_empty() {
-        return Ok(());
-    }
-    told.word("named")?;
-    told.bytes(asker.name.as_slice())
+    tell_kind(kind, out.as_slice(), told);
+    tell_asker(asker, told);
+    Ok(())
 }
 
-/// Tells the answer to INFO with these words, where the answer to SENTINEL MASTERS is `masters`.
-fn tell_info(
-    alloc: Global,
-    masters: &[u8],
-    words: &[Vec<u8>],
-    told: &mut Told,
-) -> Result<(), Unplayed> {
+/// Tells the answer to INFO with the words after the first, where the answer to SENTINEL MASTERS is that.
+fn tell_info(alloc: Global, words: &mut Words, told: &mut Told) -> Result<(), Unplayed> {
+    let masters = value_of(alloc, words.next())?;
+    let asked = array(alloc, words.rest())?;
+    let figures = FIGURES;
     let mut out = OutText::new(alloc);
-    let known = port(alloc)?;
-    info(
-        alloc,
-        &array(alloc, words)?,
-        &known.figures,
-        &value_of(alloc, masters)?,
-        &mut out,
-    )?;
-    told.bytes(out.as_slice())
+    info(alloc, &asked, &figures, &masters, &mut out)?;
+    told.bytes(out.as_slice());
+    Ok(())
 }
 
 /// Tells the answer to INFO SENTINEL at a Sentinel that watches no master and is in TILT for so many milliseconds.
 fn tell_tilt(alloc: Global, millis: u32, told: &mut Told) -> Result<(), Unplayed> {
+    let figures = Figures {
+        tilt: Some(u64::from(millis)),
+        ..FIGURES
+    };
+    let asked = value_of(alloc, b"*2\r\n$4\r\nINFO\r\n$8\r\nsentinel\r\n")?;
     let mut out = OutText::new(alloc);
-    let known = port(alloc)?;
-    let mut figures = known.figures;
-    figures.tilt = Some(u64::from(millis));
+    info(alloc, &asked, &figures, &array(alloc, &[])?, &mut out)?;
+    told.bytes(out.as_slice());
+    Ok(())
+}
+
+/// The words of a line.
+fn words_of(alloc: Global, line: &[u8]) -> Result<Vec<Vec<u8>>, Unplayed> {
     let mut words = Vec::new(alloc);
-    words.push(Vec::from_slice(alloc, b"INFO")?)?;
-    words.push(Vec::from_slice(alloc, b"sentinel")?)?;
-    let (value, none) = (array(alloc, words.as_slice())?, array(alloc, &[])?);
-    info(alloc, &value, &figures, &none, &mut out)?;
-    told.bytes(out.as_slice())
+    for word in line.split(|byte| *byte == b' ') {
+        words.push(Vec::from_slice(alloc, word)?)?;
+    }
+    Ok(words)
 }
 
 /// Tells what each of some commands of one connection is answered, each command as a line.
@@ -177,17 +184,9 @@ fn tell_each(alloc: Global, lines: &[Vec<u8>], told: &mut Told) -> Result<(), Un
     let mut asker = asker(alloc, b"", false)?;
     let mut out = OutText::new(alloc);
     for line in lines {
-        let mut words = Vec::new(alloc);
-        for word in line.as_slice().split(|byte| *byte == b' ') {
-            words.push(Vec::from_slice(alloc, word)?)?;
-        }
-        courtesy_of(
-            alloc,
-            &mut asker,
-            &array(alloc, words.as_slice())?,
-            &mut out,
-        )?;
-        told.bytes(out.as_slice())?;
+        let words = words_of(alloc, line)?;
+        courtesy_of(alloc, &mut asker, &array(alloc, &words)?, &mut out)?;
+        told.bytes(out.as_slice());
     }
     Ok(())
 }
@@ -198,7 +197,8 @@ fn tell_value(alloc: Global, value: &Value, told: &mut Told) -> Result<(), Unpla
 {
     let mut out = OutText::new(alloc);
     write_value(value, &mut out)?;
-    told.bytes(out.as_slice())
+    told.bytes(out.as_slice());
+    Ok(())
 }
 
 /// Tells what becomes of a value, one that is left by its bytes; of INFO also its answer, where the Sentinel answers
@@ -212,15 +212,16 @@ fn tell_one(
     requires { HasLines (view value.now) }
 {
     let kind = attendant.attend_to(value)?;
-    tell_kind(kind, attendant.text(), told)?;
+    tell_kind(kind, attendant.text(), told);
     match kind {
-        Courtesy::Said => Ok(()),
-        Courtesy::Left => tell_value(alloc, value, told),
+        Courtesy::Said => {}
+        Courtesy::Left => tell_value(alloc, value, told)?,
         Courtesy::AsksMasters => {
             attendant.inform(value, &array(alloc, &[])?)?;
-            told.bytes(attendant.text())
+            told.bytes(attendant.text());
         }
     }
+    Ok(())
 }
 
 /// Tells what becomes of the values that are whole. Whether the stream goes on.
@@ -235,7 +236,7 @@ fn tell_whole(
             Ok(None) => return Ok(true),
             Err(FrameFault::NoMemory) => return Err(Unplayed::NoMemory),
             Err(fault) => {
-                told.shown(&fault)?;
+                told.shown(&fault);
                 return Ok(false);
             }
         }
@@ -244,14 +245,13 @@ fn tell_whole(
 }
 
 /// Tells the commands that come first and are read where they stand.
-fn tell_commands(attendant: &mut CommandReader, told: &mut Told) -> Result<(), Unplayed> {
+fn tell_commands(attendant: &mut CommandReader, told: &mut Told) {
     for _ in 0..u64::MAX {
         match attendant.next_common() {
-            Some(command) => tell_command(&command, told)?,
-            None => return Ok(()),
+            Some(command) => tell_command(&command, told),
+            None => return,
         }
     }
-    Ok(())
 }
 
 /// Tells of each piece the commands that come first and are read where they stand, and the value after them by its
@@ -266,7 +266,7 @@ fn tell_common(
         if attendant.feed(piece).is_err() {
             return Err(Unplayed::NoMemory);
         }
-        tell_commands(attendant, told)?;
+        tell_commands(attendant, told);
         if let Ok(Some(value)) = attendant.next() {
             tell_value(alloc, &value, told)?;
         }
@@ -311,26 +311,44 @@ fn demanding(alloc: Global) -> Result<CommandReader, Unplayed> {
     Ok(attendant)
 }
 
+/// One that attends to a stream as a call wants it.
+fn attendant_of(alloc: Global, call: &str) -> Result<CommandReader, Unplayed> {
+    match call {
+        "attend" => attendant(alloc),
+        "attend_listening" => listening(alloc),
+        "attend_locked" => demanding(alloc),
+        _ => Err(Unplayed::NoSuchCall),
+    }
+}
+
+/// The connection that a call asks on.
+fn asker_of(alloc: Global, call: &str, words: &mut Words) -> Result<ClientInfo, Unplayed> {
+    match call {
+        "ask" => asker(alloc, b"", false),
+        "ask_listening" => asker(alloc, b"", true),
+        "ask_locked" => locked(alloc, false),
+        "ask_admitted" => locked(alloc, true),
+        "ask_as" => asker(alloc, words.next(), false),
+        _ => Err(Unplayed::NoSuchCall),
+    }
+}
+
 /// Tells what comes of a call with these words.
 pub(crate) fn play(
     alloc: Global,
     call: &str,
-    words: &[Vec<u8>],
+    words: &mut Words,
     told: &mut Told,
 ) -> Result<(), Unplayed> {
-    match (call, words) {
-        ("ask", words) => tell(alloc, &mut asker(alloc, b"", false)?, words, told),
-        ("ask_listening", words) => tell(alloc, &mut asker(alloc, b"", true)?, words, told),
-        ("ask_locked", words) => tell(alloc, &mut locked(alloc, false)?, words, told),
-        ("ask_admitted", words) => tell(alloc, &mut locked(alloc, true)?, words, told),
-        ("ask_as", [name, words @ ..]) => tell(alloc, &mut asker(alloc, name, false)?, words, told),
-        ("info", [masters, words @ ..]) => tell_info(alloc, masters, words, told),
-        ("tilt", [millis]) => tell_tilt(alloc, number_32(millis)?, told),
-        ("ask_each", lines) => tell_each(alloc, lines, told),
-        ("take_common", pieces) => tell_common(alloc, &mut attendant(alloc)?, pieces, told),
-        ("attend", pieces) => tell_stream(alloc, &mut attendant(alloc)?, pieces, told),
-        ("attend_listening", pieces) => tell_stream(alloc, &mut listening(alloc)?, pieces, told),
-        ("attend_locked", pieces) => tell_stream(alloc, &mut demanding(alloc)?, pieces, told),
-        _ => Err(Unplayed::NoSuchCall),
+    match call {
+        "ask" | "ask_listening" | "ask_locked" | "ask_admitted" | "ask_as" => {
+            let mut asker = asker_of(alloc, call, words)?;
+            tell(alloc, &mut asker, words.rest(), told)
+        }
+        "info" => tell_info(alloc, words, told),
+        "tilt" => tell_tilt(alloc, words.number_32(), told),
+        "ask_each" => tell_each(alloc, words.rest(), told),
+        "take_common" => tell_common(alloc, &mut attendant(alloc)?, words.rest(), told),
+        _ => tell_stream(alloc, &mut attendant_of(alloc, call)?, words.rest(), told),
     }
 }

@@ -1,7 +1,7 @@
 //! Watched nodes, watched clocks, and what others say of a master.
 
-use crate::given::{number, number_16, number_32, says};
 use crate::told::{Told, Unplayed};
+use crate::words::Words;
 use ballot_law::{DataRole, PingReply};
 use down_detector::{DownReports, Tilt, Watch, is_odown};
 use std::alloc::Global;
@@ -16,21 +16,55 @@ pub(crate) struct DownStates {
 }
 
 /// What a word that begins with `+` or `-` counts as, as an answer to a PING.
-fn reply(word: &[u8]) -> Result<PingReply, Unplayed> {
-    match word {
-        [b'+', text @ ..] => Ok(PingReply::of(false, text)),
-        [b'-', text @ ..] => Ok(PingReply::of(true, text)),
-        _ => Err(Unplayed::WrongWords),
+fn reply(words: &mut Words) -> PingReply {
+    match words.next() {
+        [b'+', text @ ..] => PingReply::of(false, text),
+        [b'-', text @ ..] => PingReply::of(true, text),
+        _ => {
+            words.refuse();
+            PingReply::Other
+        }
     }
 }
 
 /// The role that a word is.
-fn role(word: &[u8]) -> Result<DataRole, Unplayed> {
-    if says(word, "master", "slave")? {
-        Ok(DataRole::Master)
+fn role(words: &mut Words) -> DataRole {
+    if words.says(b"master", b"slave") {
+        DataRole::Master
     } else {
-        Ok(DataRole::Replica)
+        DataRole::Replica
     }
+}
+
+/// Tells what comes of a call about a watched node, if it is one. Whether it is.
+fn play_watch(watch: &mut Watch, call: &str, words: &mut Words, told: &mut Told) -> bool {
+    match call {
+        "watch" => *watch = Watch::new(words.number()),
+        "heard" => watch.heard(words.number(), reply(words)),
+        "reported" => watch.reported(words.number(), role(words)),
+        "card_changed" => watch.card_changed(words.number()),
+        "is_sdown" => {
+            let (now, after) = (words.number(), words.number());
+            told.yes(watch.is_sdown(now, after, words.says(b"master", b"node")));
+        }
+        "sdown_since" => {
+            let (now, after) = (words.number(), words.number());
+            told.maybe_number(watch.sdown_since(now, after, words.says(b"master", b"node")));
+        }
+        _ => return false,
+    }
+    true
+}
+
+/// Tells what comes of a call about a watched clock, if it is one. Whether it is.
+fn play_tilt(tilt: &mut Tilt, call: &str, words: &mut Words, told: &mut Told) -> bool {
+    match call {
+        "tilt" => *tilt = Tilt::new(words.number()),
+        "turn" => told.yes(tilt.turn(words.number())),
+        "holds" => told.yes(tilt.holds()),
+        _ => return false,
+    }
+    true
 }
 
 impl DownStates {
@@ -45,81 +79,49 @@ impl DownStates {
     }
 
     /// A Sentinel says whether it finds the master down.
-    fn report(&mut self, place: u16, down: bool, now: u64) -> Result<(), Unplayed> {
+    fn report(&mut self, words: &mut Words) {
+        let (place, is_down) = (words.number_16(), words.says(b"down", b"up"));
         if usize::from(place) >= self.reports.sentinels() {
-            return Err(Unplayed::OutOfRange);
+            return words.refuse();
         }
-        self.reports.report(place, down, now);
-        Ok(())
+        self.reports.report(place, is_down, words.number());
     }
 
-    /// Tells what comes of a call about the clock or the reports.
-    fn play_others(
+    /// Tells whether the reports make a master objectively down.
+    fn tell_odown(&self, words: &mut Words, told: &mut Told) {
+        let (own, now) = (words.says(b"true", b"false"), words.number());
+        told.yes(is_odown(own, &self.reports, now, words.number_32()));
+    }
+
+    /// Tells what comes of a call about the reports.
+    fn play_reports(
         &mut self,
         call: &str,
-        words: &[Vec<u8>],
+        words: &mut Words,
         told: &mut Told,
     ) -> Result<(), Unplayed> {
-        match (call, words) {
-            ("tilt", [now]) => {
-                self.tilt = Tilt::new(number(now)?);
-                told.ok()
-            }
-            ("turn", [now]) => told.yes(self.tilt.turn(number(now)?)),
-            ("holds", []) => told.yes(self.tilt.holds()),
-            ("reports", [sentinels]) => {
-                self.reports = DownReports::new(self.alloc, number_16(sentinels)?)?;
-                told.ok()
-            }
-            ("report", [place, down, now]) => {
-                self.report(number_16(place)?, says(down, "down", "up")?, number(now)?)?;
-                told.ok()
-            }
-            ("clear", []) => {
-                self.reports.clear();
-                told.ok()
-            }
-            ("is_odown", [own, now, quorum]) => {
-                let own = says(own, "true", "false")?;
-                told.yes(is_odown(own, &self.reports, number(now)?, number_32(quorum)?))
-            }
-            _ => Err(Unplayed::NoSuchCall),
+        match call {
+            "reports" => self.reports = DownReports::new(self.alloc, words.number_16())?,
+            "report" => self.report(words),
+            "clear" => self.reports.clear(),
+            "is_odown" => self.tell_odown(words, told),
+            _ => return Err(Unplayed::NoSuchCall),
         }
+        Ok(())
     }
 
     /// Tells what comes of a call with these words.
     pub(crate) fn play(
         &mut self,
         call: &str,
-        words: &[Vec<u8>],
+        words: &mut Words,
         told: &mut Told,
     ) -> Result<(), Unplayed> {
-        match (call, words) {
-            ("watch", [now]) => {
-                self.watch = Watch::new(number(now)?);
-                told.ok()
-            }
-            ("heard", [now, answer]) => {
-                self.watch.heard(number(now)?, reply(answer)?);
-                told.ok()
-            }
-            ("reported", [now, told_role]) => {
-                self.watch.reported(number(now)?, role(told_role)?);
-                told.ok()
-            }
-            ("card_changed", [now]) => {
-                self.watch.card_changed(number(now)?);
-                told.ok()
-            }
-            ("is_sdown", [now, after, of]) => {
-                let of = says(of, "master", "node")?;
-                told.yes(self.watch.is_sdown(number(now)?, number(after)?, of))
-            }
-            ("sdown_since", [now, after, of]) => {
-                let of = says(of, "master", "node")?;
-                told.maybe_number(self.watch.sdown_since(number(now)?, number(after)?, of))
-            }
-            _ => self.play_others(call, words, told),
+        if play_watch(&mut self.watch, call, words, told)
+            || play_tilt(&mut self.tilt, call, words, told)
+        {
+            return Ok(());
         }
+        self.play_reports(call, words, told)
     }
 }

@@ -5,26 +5,45 @@ ghost use Rattle.ballot_law.specs.Limits.{IsWithin};
 ghost use Rattle.ballot_law.specs.Limits.{IsWithinEvent};
 
 use crate::commands::array;
-use crate::given::{addr, maybe_id, number, number_16, number_32, says, text};
 use crate::told::{Told, Unplayed};
+use crate::words::Words;
 use ballot_law::{Command, Event, NodeName, PingReply, Text};
 use resp2::command_of;
 use std::alloc::Global;
+use std::str;
+
+/// The number that these digits are.
+fn place(digits: &[u8]) -> Option<u32> {
+    str::from_utf8(digits).ok()?.parse().ok()
+}
 
 /// The node that a word names by a letter and a number, as scenarios do; a client of a port, which they don't name, has
 /// `p`.
-pub(crate) fn node(word: &[u8]) -> Result<NodeName, Unplayed> {
-    match word {
-        [b's', place @ ..] => Ok(NodeName::SentinelAt(number_16(place)?)),
-        [b'd', number @ ..] => Ok(NodeName::StoreAt(number_16(number)?)),
-        [b'c', number @ ..] => Ok(NodeName::ClientAt(number_16(number)?)),
-        [b'p', number @ ..] => Ok(NodeName::PortAt(number_32(number)?)),
-        _ => Err(Unplayed::WrongWords),
+fn named(word: &[u8]) -> Option<NodeName> {
+    let (letter, digits) = word.split_first()?;
+    let number = place(digits)?;
+    match *letter {
+        b's' => Some(NodeName::SentinelAt(u16::try_from(number).ok()?)),
+        b'd' => Some(NodeName::StoreAt(u16::try_from(number).ok()?)),
+        b'c' => Some(NodeName::ClientAt(u16::try_from(number).ok()?)),
+        b'p' => Some(NodeName::PortAt(number)),
+        _ => None,
+    }
+}
+
+/// The node that the next word names.
+pub(crate) fn node(words: &mut Words) -> NodeName {
+    match named(words.next()) {
+        Some(name) => name,
+        None => {
+            words.refuse();
+            NodeName::PortAt(0)
+        }
     }
 }
 
 /// Tells the name of a node.
-pub(crate) fn tell_node(node: NodeName, told: &mut Told) -> Result<(), Unplayed> {
+pub(crate) fn tell_node(node: NodeName, told: &mut Told) {
     match node {
         NodeName::SentinelAt(place) => told.signed('s', i64::from(place)),
         NodeName::StoreAt(number) => told.signed('d', i64::from(number)),
@@ -43,56 +62,43 @@ fn command(alloc: Global, words: &[Vec<u8>]) -> Result<Command, Unplayed>
     }
 }
 
-/// What a voter says of a master: its number and address, whether it is down, and the vote that is kept.
-fn answered(words: &[Vec<u8>]) -> Result<Event, Unplayed>
-    ensures { IfOk result IsWithinEvent }
-{
-    let [voter, master, about, down, leader, epoch] = words else {
-        return Err(Unplayed::WrongWords);
-    };
-    Ok(Event::Answered {
-        voter: node(voter)?,
-        master: number_16(master)?,
-        addr: addr(about)?,
-        down: says(down, "down", "up")?,
-        leader: maybe_id(leader)?,
-        epoch: number(epoch)?,
-    })
-}
-
 /// What happens, in these words. A tick has the random number 0, and commands come from the first client of the port.
-pub(crate) fn event(alloc: Global, words: &[Vec<u8>]) -> Result<Event, Unplayed>
+pub(crate) fn event(alloc: Global, words: &mut Words) -> Result<Event, Unplayed>
     ensures { IfOk result IsWithinEvent }
 {
-    let [kind, words @ ..] = words else {
-        return Err(Unplayed::WrongWords);
-    };
-    match (text(kind)?, words) {
-        ("tick", [master]) => Ok(Event::Tick {
-            master: number_16(master)?,
+    match words.text() {
+        "tick" => Ok(Event::Tick {
+            master: words.number_16(),
             random: 0,
         }),
-        ("command", words) => Ok(Event::Command {
+        "command" => Ok(Event::Command {
             sender: NodeName::PortAt(0),
-            command: command(alloc, words)?,
+            command: command(alloc, words.rest())?,
         }),
-        ("answer", words) => answered(words),
-        ("pong", [of]) => Ok(Event::Pinged {
-            node: node(of)?,
+        "answer" => Ok(Event::Answered {
+            voter: node(words),
+            master: words.number_16(),
+            addr: words.addr(),
+            down: words.says(b"down", b"up"),
+            leader: words.maybe_id(),
+            epoch: words.number(),
+        }),
+        "pong" => Ok(Event::Pinged {
+            node: node(words),
             reply: PingReply::Pong,
         }),
-        ("loading", [of]) => Ok(Event::Pinged {
-            node: node(of)?,
+        "loading" => Ok(Event::Pinged {
+            node: node(words),
             reply: PingReply::Loading,
         }),
-        ("refused", [of]) => Ok(Event::Refused { node: node(of)? }),
-        ("lost", [of]) => Ok(Event::Disconnected { node: node(of)? }),
-        ("info", [of, bytes]) => Ok(Event::InfoRead {
-            node: node(of)?,
-            text: Text::from_slice(alloc, bytes)?,
+        "refused" => Ok(Event::Refused { node: node(words) }),
+        "lost" => Ok(Event::Disconnected { node: node(words) }),
+        "info" => Ok(Event::InfoRead {
+            node: node(words),
+            text: Text::from_slice(alloc, words.next())?,
         }),
-        ("hello", [bytes]) => Ok(Event::HelloRead {
-            text: Text::from_slice(alloc, bytes)?,
+        "hello" => Ok(Event::HelloRead {
+            text: Text::from_slice(alloc, words.next())?,
         }),
         _ => Err(Unplayed::WrongWords),
     }

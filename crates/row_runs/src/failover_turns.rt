@@ -1,7 +1,7 @@
 //! The failover of one master, and what the Sentinel knows at its turns.
 
-use crate::given::{id, maybe_id, number, number_16, number_32, says, text};
 use crate::told::{Told, Unplayed};
+use crate::words::Words;
 use ballot_law::{Addr, RunId};
 use failover_states::{Facts, Failover, FailoverState, Row};
 use std::alloc::Global;
@@ -89,22 +89,22 @@ fn tell_ordered(failover: &Failover, told: &mut Told) -> Result<(), Unplayed> {
             return Err(Unplayed::OutOfRange);
         };
         if failover.ordered(place) {
-            told.number(u64::from(place))?;
+            told.number(place);
             is_none = false;
         }
     }
     if is_none {
-        return told.word("None");
+        told.word("None");
     }
     Ok(())
 }
 
 /// Tells the configuration that the promotion brings.
-fn tell_promoted(failover: &mut Failover, told: &mut Told) -> Result<(), Unplayed> {
+fn tell_promoted(failover: &mut Failover, told: &mut Told) {
     match failover.promoted() {
         Some(card) => {
-            told.number(card.epoch)?;
-            told.address(card.addr)
+            told.number(card.epoch);
+            told.address(card.addr);
         }
         None => told.word("None"),
     }
@@ -114,33 +114,50 @@ fn tell_promoted(failover: &mut Failover, told: &mut Told) -> Result<(), Unplaye
 fn play_failover(
     failover: &mut Failover,
     call: &str,
-    words: &[Vec<u8>],
+    words: &mut Words,
     told: &mut Told,
 ) -> Result<(), Unplayed> {
-    match (call, words) {
-        ("state", []) => told.word(state_name(failover.state())),
-        ("epoch", []) => told.maybe_number(failover.epoch()),
-        ("choice", []) => told.maybe_number(failover.choice().map(u64::from)),
-        ("ordered", []) => tell_ordered(failover, told),
-        ("mark", [now]) => {
-            failover.mark(number(now)?);
-            told.ok()
-        }
-        ("at", [now]) => {
-            failover.at(number(now)?);
-            told.ok()
-        }
-        ("promoted", []) => tell_promoted(failover, told),
-        ("reconf", [place, now]) => {
-            failover.reconf(number_16(place)?, number(now)?);
-            told.ok()
-        }
-        ("end", []) => {
-            failover.end();
-            told.ok()
-        }
-        _ => Err(Unplayed::NoSuchCall),
+    match call {
+        "state" => told.word(state_name(failover.state())),
+        "epoch" => told.maybe_number(failover.epoch()),
+        "choice" => told.maybe_number(failover.choice()),
+        "ordered" => tell_ordered(failover, told)?,
+        "mark" => failover.mark(words.number()),
+        "at" => failover.at(words.number()),
+        "promoted" => tell_promoted(failover, told),
+        "reconf" => failover.reconf(words.number_16(), words.number()),
+        "end" => failover.end(),
+        _ => return Err(Unplayed::NoSuchCall),
     }
+    Ok(())
+}
+
+/// A fact is this from now on, if it is one. Whether it is.
+fn know(known: &mut Facts, fact: &str, words: &mut Words) -> bool {
+    match fact {
+        "odown" => known.odown = words.says(b"true", b"false"),
+        "current" => known.current = words.number(),
+        "voted" => known.voted = words.number(),
+        "own" => known.own = words.maybe_id(),
+        "need" => known.need = words.number_32(),
+        "pick" => known.pick = words.id(),
+        "count" => known.count = words.number_32(),
+        "best" => known.best = best(words),
+        "card" => known.card_place = words.number_16(),
+        "timeout" => known.timeout = words.number(),
+        "syncs" => known.parallel_syncs = words.number(),
+        "random" => known.random = words.number(),
+        _ => return false,
+    }
+    true
+}
+
+/// The best replica, if there is to be one.
+fn best(words: &mut Words) -> Option<(u16, Addr)> {
+    if words.says(b"true", b"false") {
+        return Some((1, BEST));
+    }
+    None
 }
 
 impl Turns {
@@ -163,42 +180,29 @@ impl Turns {
         Ok(())
     }
 
-    /// The nodes at these places are down, and no others.
-    fn know_down(&mut self, places: &[Vec<u8>]) -> Result<(), Unplayed> {
-        self.down.clear();
-        for place in places {
-            let place = usize::from(number_16(place)?);
-            for _ in self.down.len()..=place {
-                self.down.push(false)?;
-            }
-            if let Some(down) = self.down.get_mut(place) {
-                *down = true;
-            }
+    /// The node at a place is down.
+    fn note_down(&mut self, place: usize) -> Result<(), Unplayed> {
+        for _ in self.down.len()..=place {
+            self.down.push(false)?;
+        }
+        if let Some(down) = self.down.get_mut(place) {
+            *down = true;
         }
         Ok(())
     }
 
-    /// A fact is this from now on.
-    fn know(&mut self, fact: &[u8], value: &[u8]) -> Result<(), Unplayed> {
-        let known = &mut self.known;
-        match text(fact)? {
-            "odown" => known.odown = says(value, "true", "false")?,
-            "current" => known.current = number(value)?,
-            "voted" => known.voted = number(value)?,
-            "own" => known.own = maybe_id(value)?,
-            "need" => known.need = number_32(value)?,
-            "pick" => known.pick = id(value)?,
-            "count" => known.count = number_32(value)?,
-            "best" => known.best = if says(value, "true", "false")? {
-                FACTS.best
-            } else {
-                None
-            },
-            "card" => known.card_place = number_16(value)?,
-            "timeout" => known.timeout = number(value)?,
-            "syncs" => known.parallel_syncs = number(value)?,
-            "random" => known.random = number(value)?,
-            _ => return Err(Unplayed::WrongWords),
+    /// A fact is this from now on; of `down`, these nodes are, and no others.
+    fn know(&mut self, words: &mut Words) -> Result<(), Unplayed> {
+        let fact = words.text();
+        if know(&mut self.known, fact, words) {
+            return Ok(());
+        }
+        if fact != "down" {
+            return Err(Unplayed::WrongWords);
+        }
+        self.down.clear();
+        for _ in 0..words.len() {
+            self.note_down(usize::from(words.number_16()))?;
         }
         Ok(())
     }
@@ -219,31 +223,19 @@ impl Turns {
     pub(crate) fn play(
         &mut self,
         call: &str,
-        words: &[Vec<u8>],
+        words: &mut Words,
         told: &mut Told,
     ) -> Result<(), Unplayed> {
-        match (call, words) {
-            ("failover", [nodes]) => {
-                self.begin(number_16(nodes)?)?;
-                told.ok()
-            }
-            ("know", [fact, places @ ..]) if fact.as_slice() == b"down".as_slice() => {
-                self.know_down(places)?;
-                told.ok()
-            }
-            ("know", [fact, value]) => {
-                self.know(fact, value)?;
-                told.ok()
-            }
-            ("turn", [now]) => {
-                let row = self.turn(number(now)?)?;
-                told.word(row_name(row))
-            }
-            ("vote", []) => told.maybe_id(self.vote),
+        match call {
+            "failover" => self.begin(words.number_16())?,
+            "know" => self.know(words)?,
+            "turn" => told.word(row_name(self.turn(words.number())?)),
+            "vote" => told.maybe_id(self.vote),
             _ => {
                 let failover = self.failover.as_mut().ok_or(Unplayed::OutOfRange)?;
-                play_failover(failover, call, words, told)
+                play_failover(failover, call, words, told)?;
             }
         }
+        Ok(())
     }
 }

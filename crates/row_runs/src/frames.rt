@@ -3,14 +3,14 @@
 ghost use Rattle.std.specs.Prelude.{IfOk, IfSome};
 ghost use Rattle.resp2.specs.Framing.Frame.{view, HasLines};
 
-use crate::given::number;
 use crate::told::{Told, Unplayed};
+use crate::words::Words;
 use resp2::{FrameFault, Frames, OutText, Value, values_of_pieces, write_value};
 use std::alloc::Global;
 
 /// Tells a value: a line, an integer or a bulk string after the byte of its kind, and an array as how many items it has
 /// and then those.
-pub(crate) fn tell_value(value: &Value, told: &mut Told) -> Result<(), Unplayed> {
+pub(crate) fn tell_value(value: &Value, told: &mut Told) {
     match value {
         Value::Simple(text) => told.marked('+', text.as_slice()),
         Value::Fault(text) => told.marked('-', text.as_slice()),
@@ -19,11 +19,10 @@ pub(crate) fn tell_value(value: &Value, told: &mut Told) -> Result<(), Unplayed>
         Value::NullBulk => told.word("NullBulk"),
         Value::NullItems => told.word("NullItems"),
         Value::Items(items) => {
-            told.signed('*', items.len() as i64)?;
+            told.signed('*', items.len() as i64);
             for item in items {
-                tell_value(item, told)?;
+                tell_value(item, told);
             }
-            Ok(())
         }
     }
 }
@@ -55,27 +54,25 @@ pub(crate) fn next(frames: &mut Frames) -> Result<Option<Value>, FrameFault>
 }
 
 /// Tells the values that are whole, and then that more bytes are asked for, or the fault.
-fn tell_whole(frames: &mut Frames, told: &mut Told) -> Result<(), Unplayed> {
+fn tell_whole(frames: &mut Frames, told: &mut Told) {
     for _ in 0..u64::MAX {
         match next(frames) {
-            Ok(Some(value)) => tell_value(&value, told)?,
+            Ok(Some(value)) => tell_value(&value, told),
             Ok(None) => return told.word("more"),
             Err(fault) => return told.shown(&fault),
         }
     }
-    Ok(())
 }
 
 /// Tells what a reader gives after each of these pieces, and with which fault it refuses one.
-fn tell_pieces(alloc: Global, pieces: &[Vec<u8>], told: &mut Told) -> Result<(), Unplayed> {
+fn tell_pieces(alloc: Global, pieces: &[Vec<u8>], told: &mut Told) {
     let mut frames = Frames::new(alloc);
     for piece in pieces {
         if let Err(fault) = feed(&mut frames, piece) {
-            told.shown(&fault)?;
+            told.shown(&fault);
         }
-        tell_whole(&mut frames, told)?;
+        tell_whole(&mut frames, told);
     }
-    Ok(())
 }
 
 /// Tells what a reader gives of each beginning of these bytes, from none of them to all but the last.
@@ -85,7 +82,7 @@ fn tell_beginnings(alloc: Global, bytes: &[u8], told: &mut Told) -> Result<(), U
         if feed(&mut frames, &bytes[..end]).is_err() {
             return Err(Unplayed::Changed);
         }
-        tell_whole(&mut frames, told)?;
+        tell_whole(&mut frames, told);
     }
     Ok(())
 }
@@ -102,17 +99,19 @@ fn tell_by_bytes(alloc: Global, bytes: &[u8], told: &mut Told) -> Result<(), Unp
         match next(&mut frames) {
             Ok(None) => asked = asked.saturating_add(1),
             Ok(Some(value)) => {
-                told.number(asked)?;
-                tell_value(&value, told)?;
+                told.number(asked);
+                tell_value(&value, told);
                 asked = 0;
             }
             Err(fault) => {
-                told.number(asked)?;
-                return told.shown(&fault);
+                told.number(asked);
+                told.shown(&fault);
+                return told.whole();
             }
         }
     }
-    tell_whole(&mut frames, told)
+    tell_whole(&mut frames, told);
+    told.whole()
 }
 
 /// The same, as many times as that; it is told once, and another answer to the same bytes after it.
@@ -122,20 +121,20 @@ fn tell_rounds(alloc: Global, rounds: u64, bytes: &[u8], told: &mut Told) -> Res
         let mut again = Told::new(alloc);
         tell_by_bytes(alloc, bytes, &mut again)?;
         if again.as_str() != told.as_str() {
-            return told.word(again.as_str());
+            told.word(again.as_str());
+            return Ok(());
         }
     }
     Ok(())
 }
 
 /// Tells the values of a stream in these pieces.
-fn tell_values(alloc: Global, pieces: &[Vec<u8>], told: &mut Told) -> Result<(), Unplayed> {
+fn tell_values(alloc: Global, pieces: &[Vec<u8>], told: &mut Told) {
     match values_of_pieces(alloc, pieces) {
         Ok(values) => {
             for value in values.as_slice() {
-                tell_value(value, told)?;
+                tell_value(value, told);
             }
-            Ok(())
         }
         Err(fault) => told.shown(&fault),
     }
@@ -147,7 +146,8 @@ fn tell_halves(alloc: Global, bytes: &[u8], place: usize, told: &mut Told) -> Re
     let mut pieces = Vec::new(alloc);
     pieces.push(Vec::from_slice(alloc, front)?)?;
     pieces.push(Vec::from_slice(alloc, back)?)?;
-    tell_values(alloc, &pieces, told)
+    tell_values(alloc, &pieces, told);
+    told.whole()
 }
 
 /// Tells the values of a stream, if they are the same wherever it is cut in two.
@@ -157,9 +157,10 @@ fn tell_cuts(alloc: Global, bytes: &[u8], told: &mut Told) -> Result<(), Unplaye
         let mut again = Told::new(alloc);
         tell_halves(alloc, bytes, place, &mut again)?;
         if again.as_str() != told.as_str() {
-            told.word("and cut at")?;
-            told.number(place as u64)?;
-            return told.word(again.as_str());
+            told.word("and cut at");
+            told.number(place);
+            told.word(again.as_str());
+            return Ok(());
         }
     }
     Ok(())
@@ -210,43 +211,38 @@ fn add_by_bytes(text: &mut OutText, bytes: &[u8]) -> Result<(), Unplayed> {
     Ok(())
 }
 
-/// Tells how long a text of these two is, its first part, and what is left of it when it is cleared.
-fn tell_parts(
-    alloc: Global,
-    bytes: &[u8],
-    others: &[u8],
-    len: usize,
-    told: &mut Told,
-) -> Result<(), Unplayed> {
+/// Tells how long a text of the next two words is, its first part, and what is left of it when it is cleared.
+fn tell_parts(alloc: Global, words: &mut Words, told: &mut Told) -> Result<(), Unplayed> {
+    let bytes = words.next();
     let mut text = written_again(alloc, bytes.len(), bytes)?;
-    add_by_bytes(&mut text, others)?;
-    told.number(text.len() as u64)?;
-    text.truncate(len);
-    told.bytes(text.as_slice())?;
+    add_by_bytes(&mut text, words.next())?;
+    told.number(text.len());
+    text.truncate(words.size());
+    told.bytes(text.as_slice());
     text.clear();
-    told.bytes(text.as_slice())
+    told.bytes(text.as_slice());
+    Ok(())
 }
 
 /// Tells what comes of a call with these words.
 pub(crate) fn play(
     alloc: Global,
     call: &str,
-    words: &[Vec<u8>],
+    words: &mut Words,
     told: &mut Told,
 ) -> Result<(), Unplayed> {
-    match (call, words) {
-        ("next", pieces) => tell_pieces(alloc, pieces, told),
-        ("next_each_beginning", [bytes]) => tell_beginnings(alloc, bytes, told),
-        ("next_by_bytes", [rounds, bytes]) => tell_rounds(alloc, number(rounds)?, bytes, told),
-        ("values_of_pieces", pieces) => tell_values(alloc, pieces, told),
-        ("values_of_two_pieces", [bytes]) => tell_cuts(alloc, bytes, told),
-        ("write_value", [size, bytes]) => {
-            let text = written_again(alloc, number(size)? as usize, bytes)?;
-            told.bytes(text.as_slice())
+    match call {
+        "next" => tell_pieces(alloc, words.rest(), told),
+        "next_each_beginning" => tell_beginnings(alloc, words.next(), told)?,
+        "next_by_bytes" => tell_rounds(alloc, words.number(), words.next(), told)?,
+        "values_of_pieces" => tell_values(alloc, words.rest(), told),
+        "values_of_two_pieces" => tell_cuts(alloc, words.next(), told)?,
+        "write_value" => {
+            let text = written_again(alloc, words.size(), words.next())?;
+            told.bytes(text.as_slice());
         }
-        ("out_text", [bytes, others, len]) => {
-            tell_parts(alloc, bytes, others, number(len)? as usize, told)
-        }
-        _ => Err(Unplayed::NoSuchCall),
+        "out_text" => tell_parts(alloc, words, told)?,
+        _ => return Err(Unplayed::NoSuchCall),
     }
+    Ok(())
 }

@@ -1,8 +1,9 @@
 //! Conversations with a node on a connection that a Sentinel opened: what is asked, and what each reply tells.
 
 use crate::events::node;
-use crate::message_rows::{message, tell_event};
+use crate::message_rows::{question, tell_event};
 use crate::told::{Told, Unplayed};
+use crate::words::{Words, split};
 use links::{LinkFault, LinkSession};
 use std::alloc::Global;
 
@@ -11,7 +12,8 @@ fn tell_fault(fault: LinkFault, told: &mut Told) -> Result<(), Unplayed> {
     if fault == LinkFault::NoMemory {
         return Err(Unplayed::NoMemory);
     }
-    told.shown(&fault)
+    told.shown(&fault);
+    Ok(())
 }
 
 /// Orders a command of these words.
@@ -32,66 +34,83 @@ fn ask(
     words: &[Vec<u8>],
     told: &mut Told,
 ) -> Result<(), Unplayed> {
-    let asked = match words {
-        [kind, words @ ..] if kind.as_slice() == b"Order".as_slice() => {
-            order(alloc, session, words)
-        }
-        words => session.ask(&message(alloc, b"s0", b"s1", words)?),
+    let mut words = Words::new(words);
+    let asked = if words.begin_with(b"Order") {
+        order(alloc, session, words.rest())
+    } else {
+        session.ask(&question(alloc, &mut words)?)
     };
+    words.end()?;
     match asked {
         Ok(()) => Ok(()),
         Err(fault) => tell_fault(fault, told),
     }
 }
 
-/// Tells what these pieces say, one after another, each fault, and whether an answer is awaited.
-fn hear(
+/// Asks all that these words say, with a word `,` between two questions.
+fn ask_all(
     alloc: Global,
     session: &mut LinkSession,
-    pieces: &[Vec<u8>],
-    told: &mut Told,
-) -> Result<(), Unplayed> {
-    for piece in pieces {
-        let mut events = Vec::new(alloc);
-        let heard = session.received(piece, &mut events);
-        for event in &events {
-            tell_event(alloc, event, told)?;
-        }
-        if let Err(fault) = heard {
-            tell_fault(fault, told)?;
-        }
-    }
-    told.word(if session.is_waiting() {
-        "waits"
-    } else {
-        "idle"
-    })
-}
-
-/// Tells what comes of a call with these words: the node, the questions with a word `,` between two, and after a word
-/// `then` the pieces that it sends.
-pub(crate) fn play(
-    alloc: Global,
-    call: &str,
     words: &[Vec<u8>],
     told: &mut Told,
 ) -> Result<(), Unplayed> {
-    let [name, words @ ..] = words else {
-        return Err(Unplayed::WrongWords);
-    };
-    let mut parts = words.split(|word| word.as_slice() == b"then".as_slice());
-    let asks = parts.next().unwrap_or(&[]);
-    let pieces = parts.next().unwrap_or(&[]);
-    let mut session = match call {
-        "asks" | "hears" => LinkSession::new(alloc, node(name)?),
-        "listens" => LinkSession::listening(alloc, node(name)?),
-        _ => return Err(Unplayed::NoSuchCall),
-    };
-    for words in asks.split(|word| word.as_slice() == b",".as_slice()) {
-        ask(alloc, &mut session, words, told)?;
+    let mut rest = words;
+    for _ in 0..words.len() {
+        if rest.is_empty() {
+            return Ok(());
+        }
+        let (words, more) = split(rest, b",");
+        ask(alloc, session, words, told)?;
+        rest = more;
     }
+    Ok(())
+}
+
+/// Tells what a piece says, and its fault.
+fn hear(
+    alloc: Global,
+    session: &mut LinkSession,
+    piece: &[u8],
+    told: &mut Told,
+) -> Result<(), Unplayed> {
+    let mut events = Vec::new(alloc);
+    let heard = session.received(piece, &mut events);
+    for event in &events {
+        tell_event(alloc, event, told)?;
+    }
+    match heard {
+        Ok(()) => Ok(()),
+        Err(fault) => tell_fault(fault, told),
+    }
+}
+
+/// The conversation of a call with the node of the next word.
+fn session(alloc: Global, call: &str, words: &mut Words) -> Result<LinkSession, Unplayed> {
+    match call {
+        "asks" | "hears" => Ok(LinkSession::new(alloc, node(words))),
+        "listens" => Ok(LinkSession::listening(alloc, node(words))),
+        _ => Err(Unplayed::NoSuchCall),
+    }
+}
+
+/// Tells what comes of a call with these words: the node, the questions with a word `,` between two, and after a word
+/// `then` the pieces that it sends. Each piece is told with its fault, and then whether an answer is awaited.
+pub(crate) fn play(
+    alloc: Global,
+    call: &str,
+    words: &mut Words,
+    told: &mut Told,
+) -> Result<(), Unplayed> {
+    let mut session = session(alloc, call, words)?;
+    let (asks, pieces) = split(words.rest(), b"then");
+    ask_all(alloc, &mut session, asks, told)?;
     if call == "asks" {
-        return told.bytes(session.unsent());
+        told.bytes(session.unsent());
+        return Ok(());
     }
-    hear(alloc, &mut session, pieces, told)
+    for piece in pieces {
+        hear(alloc, &mut session, piece, told)?;
+    }
+    told.either(session.is_waiting(), "waits", "idle");
+    Ok(())
 }

@@ -23,7 +23,6 @@ mod down_states;
 mod events;
 mod failover_turns;
 mod frames;
-mod given;
 mod hellos;
 mod infos;
 mod link_talks;
@@ -45,53 +44,17 @@ mod stores;
 mod told;
 mod votes_and_elections;
 mod watch_confs;
+mod words;
 mod words_and_numbers;
 mod writable;
 
-use crate::spelling::{add_spelling, bytes_of, written_out};
-use crate::stages::Stage;
+use crate::spelling::{bytes_of, written_out};
+use crate::stages::{Stage, play};
 use crate::told::{Told, Unplayed};
+use crate::words::Words;
 use std::io::ErrorKind;
 use std::sync::Wait;
 use std::{env, fs, io};
-
-/// Tells what comes of a call with these words, of a family each of whose rows is by itself. The family is the name of
-/// the row's file.
-fn play(
-    rt: &HostRuntime,
-    family: &str,
-    call: &str,
-    words: &[Vec<u8>],
-    told: &mut Told,
-) -> Result<(), Unplayed> {
-    match family {
-        "answers" => answers::play(rt.alloc(), call, words, told),
-        "bounded_lists" => bounded_lists::play(rt.alloc(), call, words, told),
-        "channels" => channels::play(rt.alloc(), call, words, told),
-        "conf_files" => conf_files::play(rt.alloc(), call, words, told),
-        "commands" => commands::play(rt.alloc(), call, words, told),
-        "checked_files" => checked_files::play(rt.alloc(), call, words, told),
-        "courtesies" => courtesies::play(rt.alloc(), call, words, told),
-        "frames" | "long_frames" => frames::play(rt.alloc(), call, words, told),
-        "hellos" => hellos::play(rt.alloc(), call, words, told),
-        "infos" => infos::play(rt.alloc(), call, words, told),
-        "link_talks" => link_talks::play(rt.alloc(), call, words, told),
-        "message_bytes" | "message_lines" | "comments" | "deliveries_to_nodes" => {
-            message_rows::play(rt.alloc(), call, words, told)
-        }
-        "names_and_texts" => names_and_texts::play(rt.alloc(), call, words, told),
-        "node_talks" => node_talks::play(rt.alloc(), call, words, told),
-        "reports" => reports::play(rt.alloc(), call, words, told),
-        "scenario_lines" => scenario_lines::play(rt.alloc(), call, words, told),
-        "memory_stores" | "file_stores" | "refused_stores" => {
-            stores::play(rt, call, words, told)
-        }
-        "roles" => roles::play(rt.alloc(), call, words, told),
-        "watch_confs" => watch_confs::play(rt.alloc(), call, words, told),
-        "words_and_numbers" => words_and_numbers::play(rt.alloc(), call, words, told),
-        _ => Err(Unplayed::NoSuchFamily),
-    }
-}
 
 /// The bytes of a file that a row names.
 fn file(rt: &HostRuntime, name: &str) -> Result<Vec<u8>, Unplayed> {
@@ -120,17 +83,15 @@ fn words_of(rt: &HostRuntime, text: &str) -> Result<Vec<Vec<u8>>, Unplayed> {
 }
 
 /// The words of what must come, with files in the place of their names.
-fn wanted_of(rt: &HostRuntime, text: &str) -> Result<String, Unplayed> {
-    let mut words = String::new(rt.alloc());
-    for (place, word) in text.split(' ').enumerate() {
-        if place > 0 {
-            words.push(' ')?;
-        }
+fn wanted_of(rt: &HostRuntime, text: &str) -> Result<Told, Unplayed> {
+    let mut words = Told::new(rt.alloc());
+    for word in text.split(' ') {
         match word.strip_prefix('@') {
-            Some(name) => add_spelling(&mut words, &file(rt, name)?)?,
-            None => words.push_str(word)?,
+            Some(name) => words.bytes(&file(rt, name)?),
+            None => words.word(word),
         }
     }
+    words.whole()?;
     Ok(words)
 }
 
@@ -138,7 +99,7 @@ fn wanted_of(rt: &HostRuntime, text: &str) -> Result<String, Unplayed> {
 #[derive(Drop)]
 struct Played {
     came: Told,
-    wanted: String,
+    wanted: Told,
 }
 
 /// Plays a row, on what its section acts on.
@@ -154,19 +115,19 @@ fn play_row<R: Wait>(
         return Err(Unplayed::NoArrow);
     };
     let wanted = wanted_of(rt, back)?;
-    let words = words_of(rt, front)?;
+    let given = words_of(rt, front)?;
+    let mut words = Words::new(&given);
     let call = front.split(' ').next().unwrap_or("");
     let mut came = Told::with_room(rt.alloc())?;
     if matches!(stage, Stage::NotSet) {
         *stage = Stage::of(rt.alloc(), family)?;
     }
     match stage {
-        Stage::Empty => play(rt, family, call, &words, &mut came)?,
-        stage => stage.play(wait, call, &words, &mut came)?,
+        Stage::Empty => play(rt, family, call, &mut words, &mut came)?,
+        stage => stage.play(wait, call, &mut words, &mut came)?,
     }
-    if came.as_str().is_empty() {
-        return Err(Unplayed::NothingTold);
-    }
+    words.end()?;
+    came.end()?;
     Ok(Played { came, wanted })
 }
 
@@ -214,7 +175,7 @@ impl<R: Wait> Sheet<'_, R> {
         let (rt, family, place) = (&self.rt, self.family, self.place);
         println!(rt; "{family}.rows:{place}: another answer came")?;
         println!(rt; "  came:      {}", played.came.as_str())?;
-        println!(rt; "  must come: {}", played.wanted)
+        println!(rt; "  must come: {}", played.wanted.as_str())
     }
 
     /// Plays the row that has begun, and says what is wrong with it.

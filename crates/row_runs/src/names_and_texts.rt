@@ -1,48 +1,52 @@
 //! Names, their order, texts, and readings of a clock.
 
-use crate::given::number;
 use crate::told::{Told, Unplayed};
+use crate::words::Words;
 use ballot_law::{Name, ShortText, Text, clock_of, is_same_bytes, ordered};
 use std::alloc::Global;
 
-/// The names that these words are, in order, each once.
-fn names(alloc: Global, words: &[Vec<u8>]) -> Result<Vec<Name>, Unplayed> {
+/// The name that a word is.
+pub(crate) fn name(words: &mut Words) -> Result<Name, Unplayed> {
+    Name::from_slice(words.next()).ok_or(Unplayed::WrongWords)
+}
+
+/// Tells the names that these words are, in order, each once.
+fn tell_ordered(alloc: Global, words: &mut Words, told: &mut Told) -> Result<(), Unplayed> {
     let mut names = Vec::new(alloc);
-    for word in words {
-        names.push(Name::from_slice(word).ok_or(Unplayed::WrongWords)?)?;
+    for _ in 0..words.len() {
+        names.push(name(words)?)?;
     }
-    Ok(ordered(alloc, names)?)
+    for name in &ordered(alloc, names)? {
+        told.bytes(name.as_slice());
+    }
+    Ok(())
 }
 
 /// Tells what comes of a call with these words.
 pub(crate) fn play(
     alloc: Global,
     call: &str,
-    words: &[Vec<u8>],
+    words: &mut Words,
     told: &mut Told,
 ) -> Result<(), Unplayed> {
-    match (call, words) {
-        ("name", [word]) => match Name::from_slice(word) {
+    match call {
+        "name" => match Name::from_slice(words.next()) {
             Some(name) => told.bytes(name.as_slice()),
             None => told.word("None"),
         },
-        ("ordered", words) => {
-            for name in &names(alloc, words)? {
-                told.bytes(name.as_slice())?;
-            }
-            Ok(())
+        "ordered" => tell_ordered(alloc, words, told)?,
+        "is_same" => told.yes(is_same_bytes(words.next(), words.next())),
+        "text" => {
+            let text = Text::from_slice(alloc, words.next())?;
+            told.bytes(text.as_slice());
+            told.bytes(text.into_vec().as_slice());
         }
-        ("is_same", [first, second]) => told.yes(is_same_bytes(first, second)),
-        ("text", [word]) => {
-            let text = Text::from_slice(alloc, word)?;
-            told.bytes(text.as_slice())?;
-            told.bytes(text.into_vec().as_slice())
-        }
-        ("short_text", [word]) => match ShortText::from_slice(word) {
+        "short_text" => match ShortText::from_slice(words.next()) {
             Some(text) => told.bytes(text.as_slice()),
             None => told.word("None"),
         },
-        ("clock", [reading]) => told.number(clock_of(number(reading)?)),
-        _ => Err(Unplayed::NoSuchCall),
+        "clock" => told.number(clock_of(words.number())),
+        _ => return Err(Unplayed::NoSuchCall),
     }
+    Ok(())
 }

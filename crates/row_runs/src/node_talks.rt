@@ -4,6 +4,7 @@ ghost use Rattle.node_texts.specs.Infos.{IsInfo};
 
 use crate::infos::can_be_written;
 use crate::told::{Told, Unplayed};
+use crate::words::Words;
 use ballot_law::Info;
 use data_node_port::Session;
 use node_texts::read_info;
@@ -27,23 +28,24 @@ fn answer_all(session: &mut Session, most: usize, info: &Info) -> Result<(), Unp
 pub(crate) fn play(
     alloc: Global,
     call: &str,
-    words: &[Vec<u8>],
+    words: &mut Words,
     told: &mut Told,
 ) -> Result<(), Unplayed> {
-    let ("talk", [shown, pieces @ ..]) = (call, words) else {
+    if call != "talk" {
         return Err(Unplayed::NoSuchCall);
-    };
-    let Ok(info) = read_info(shown) else {
+    }
+    let Ok(info) = read_info(words.next()) else {
         return Err(Unplayed::WrongWords);
     };
     if !can_be_written(&info) {
         return Err(Unplayed::WrongWords);
     }
     let mut session = Session::new(alloc);
-    for piece in pieces {
+    for piece in words.rest() {
         session.feed(piece)?;
         answer_all(&mut session, piece.len().saturating_add(1), &info)?;
     }
-    told.bytes(session.unsent())?;
-    told.word(if session.ends() { "closed" } else { "open" })
+    told.bytes(session.unsent());
+    told.either(session.ends(), "closed", "open");
+    Ok(())
 }

@@ -5,9 +5,9 @@ ghost use Rattle.boxed_nodes.specs.Sendable.{IsTakeable, IsHeldBy};
 
 use crate::bodies::body;
 use crate::events::node;
-use crate::given::number_32;
 use crate::message_rows::tell_message;
 use crate::told::{Told, Unplayed};
+use crate::words::Words;
 use ballot_law::{Event, Input, KeptText, Message, NodeName, Output};
 use boxed_nodes::{ClientNode, DataNode, HowStored, Node};
 use sentinel_conf::{Conf, read};
@@ -22,25 +22,23 @@ struct LoneNode<N: Node> {
 }
 
 /// What happens at a node: a message reaches it, the timer of the first master rings, or it becomes another one.
-fn event(alloc: Global, call: &str, words: &[Vec<u8>]) -> Result<Event, Unplayed>
+fn event(alloc: Global, call: &str, words: &mut Words) -> Result<Event, Unplayed>
     ensures { IfOk result IsTakeable }
 {
-    match (call, words) {
-        ("from", [sender, words @ ..]) | ("take", [sender, words @ ..]) => {
-            Ok(Event::Handed(Message {
-                sender: node(sender)?,
-                target: NodeName::StoreAt(0),
-                body: body(alloc, words)?,
-            }))
-        }
-        ("tick", []) => Ok(Event::Tick {
+    match call {
+        "from" | "take" => Ok(Event::Handed(Message {
+            sender: node(words),
+            target: NodeName::StoreAt(0),
+            body: body(alloc, words)?,
+        })),
+        "tick" => Ok(Event::Tick {
             master: 0,
             random: 0,
         }),
-        ("become", [priority, offset, link_down]) => Ok(Event::Become {
-            priority: u64::from(number_32(priority)?),
-            offset: u64::from(number_32(offset)?),
-            link_down: u64::from(number_32(link_down)?),
+        "become" => Ok(Event::Become {
+            priority: u64::from(words.number_32()),
+            offset: u64::from(words.number_32()),
+            link_down: u64::from(words.number_32()),
         }),
         _ => Err(Unplayed::NoSuchCall),
     }
@@ -80,31 +78,30 @@ impl<N: Node> LoneNode<N> {
         }
     }
 
+    /// Stops it, and starts it anew.
+    fn start_again(&mut self) -> Result<(), Unplayed> {
+        self.node.stop(KeptText::Old);
+        if self.node.start(0).is_err() {
+            return Err(Unplayed::NoMemory);
+        }
+        Ok(())
+    }
+
     /// Tells what comes of a call with these words.
     fn play(
         &mut self,
         alloc: Global,
         call: &str,
-        words: &[Vec<u8>],
+        words: &mut Words,
         told: &mut Told,
     ) -> Result<(), Unplayed> {
         match call {
-            "start" => {
-                self.node.stop(KeptText::Old);
-                if self.node.start(0).is_err() {
-                    return Err(Unplayed::NoMemory);
-                }
-                told.ok()
-            }
-            "take" => {
-                self.take(event(alloc, call, words)?)?;
-                told.ok()
-            }
-            "from" | "tick" | "become" => {
+            "start" => self.start_again(),
+            "take" => self.take(event(alloc, call, words)?),
+            _ => {
                 self.give(event(alloc, call, words)?)?;
                 self.tell(alloc, told)
             }
-            _ => Err(Unplayed::NoSuchCall),
         }
     }
 
@@ -115,7 +112,8 @@ impl<N: Node> LoneNode<N> {
                 tell_message(alloc, message, told)?;
             }
         }
-        told.nothing()
+        told.nothing();
+        Ok(())
     }
 }
 
@@ -167,29 +165,30 @@ impl Nodes {
     }
 
     /// Makes the node of this name of the group of a file, if there is one.
-    fn make(&mut self, name: NodeName, file: &[u8], told: &mut Told) -> Result<(), Unplayed> {
-        let conf = conf(self.alloc, file)?;
+    fn make(&mut self, words: &mut Words, told: &mut Told) -> Result<(), Unplayed> {
+        let name = node(words);
+        let conf = conf(self.alloc, words.next())?;
         self.kind = self.made(name, &conf)?;
-        match self.kind {
-            Some(_) => told.ok(),
-            None => told.word("None"),
+        if self.kind.is_none() {
+            told.word("None");
         }
+        Ok(())
     }
 
     /// Tells what comes of a call with these words.
     pub(crate) fn play(
         &mut self,
         call: &str,
-        words: &[Vec<u8>],
+        words: &mut Words,
         told: &mut Told,
     ) -> Result<(), Unplayed> {
-        match (call, words) {
-            ("node", [name, file]) => self.make(node(name)?, file, told),
-            _ => match &mut self.kind {
-                Some(Kind::Data(node)) => node.play(self.alloc, call, words, told),
-                Some(Kind::Client(node)) => node.play(self.alloc, call, words, told),
-                None => Err(Unplayed::OutOfRange),
-            },
+        if call == "node" {
+            return self.make(words, told);
+        }
+        match &mut self.kind {
+            Some(Kind::Data(node)) => node.play(self.alloc, call, words, told),
+            Some(Kind::Client(node)) => node.play(self.alloc, call, words, told),
+            None => Err(Unplayed::OutOfRange),
         }
     }
 }

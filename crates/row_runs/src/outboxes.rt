@@ -4,8 +4,8 @@ ghost use Rattle.std.specs.Prelude.{◌≡◌, [], OnOk};
 ghost use Rattle.sentinel_outbox.specs.Outboxes.{IsOtherNode};
 
 use crate::events::tell_node;
-use crate::given::{number_16, number_32};
 use crate::told::{Told, Unplayed};
+use crate::words::Words;
 use ballot_law::{Addr, Body, Card, Message, NodeName, Note, Output, Shown, ShownList, Text};
 use sentinel_outbox::{Outbox, Phase, Room, Stores};
 use std::alloc::Global;
@@ -58,24 +58,24 @@ fn answer_to(number: u16) -> Message
     }
 }
 
-/// The room that these words name: for a number of messages, or that of a Sentinel.
-fn room(words: &[Vec<u8>]) -> Result<Room, Unplayed> {
-    match words {
-        [] => Ok(Room::of_sentinel()),
-        [messages] => Ok(Room::messages(number_32(messages)?)),
-        _ => Err(Unplayed::WrongWords),
+/// The room that the words that are left name: for a number of messages, or that of a Sentinel.
+fn room(words: &mut Words) -> Room {
+    if words.is_empty() {
+        Room::of_sentinel()
+    } else {
+        Room::messages(words.number_32())
     }
 }
 
 /// Tells the master that each output is a note about, and whom each message is for.
-fn tell(outputs: &[Output], told: &mut Told) -> Result<(), Unplayed> {
+fn tell(outputs: &[Output], told: &mut Told) {
     for output in outputs {
         match output {
-            Output::Tell(note) => told.number(u64::from(note.master))?,
-            Output::Send(message) => tell_node(message.target, told)?,
+            Output::Tell(note) => told.number(note.master),
+            Output::Send(message) => tell_node(message.target, told),
         }
     }
-    told.nothing()
+    told.nothing();
 }
 
 /// Takes two notes and releases them; the room is made before.
@@ -157,18 +157,18 @@ impl Outboxes {
     }
 
     /// Does what a call says that tells nothing.
-    fn act(&mut self, call: &str, words: &[Vec<u8>]) -> Result<(), Unplayed> {
-        match (call, words) {
-            ("outbox", []) => self.outbox = Outbox::new(self.alloc),
-            ("reserve", words) => self.outbox.reserve(&room(words)?)?,
-            ("show_notes" | "show_answers", [first, second]) => {
-                self.show(call, number_16(first)?, number_16(second)?)?;
+    fn act(&mut self, call: &str, words: &mut Words) -> Result<(), Unplayed> {
+        match call {
+            "outbox" => self.outbox = Outbox::new(self.alloc),
+            "reserve" => self.outbox.reserve(&room(words))?,
+            "show_notes" | "show_answers" => {
+                self.show(call, words.number_16(), words.number_16())?;
             }
-            ("hold_answer", []) => hold_answer(&mut self.outbox)?,
-            ("show_stored", []) => self.outbox.show_stored(&StandIn),
-            ("clear", []) => self.outbox.clear(),
-            ("drop_held", []) => self.outbox.drop_held(),
-            ("move_shown", []) => self.move_shown()?,
+            "hold_answer" => hold_answer(&mut self.outbox)?,
+            "show_stored" => self.outbox.show_stored(&StandIn),
+            "clear" => self.outbox.clear(),
+            "drop_held" => self.outbox.drop_held(),
+            "move_shown" => self.move_shown()?,
             _ => return Err(Unplayed::NoSuchCall),
         }
         Ok(())
@@ -178,19 +178,17 @@ impl Outboxes {
     pub(crate) fn play(
         &mut self,
         call: &str,
-        words: &[Vec<u8>],
+        words: &mut Words,
         told: &mut Told,
     ) -> Result<(), Unplayed> {
-        match (call, words) {
-            ("hold", [number]) => told.yes(self.outbox.hold(answer_to(number_16(number)?))),
-            ("fits", words) => told.yes(self.outbox.fits(&room(words)?)),
-            ("held_len", []) => told.number(self.outbox.held_len() as u64),
-            ("outputs", []) => tell(self.outbox.outputs(), told),
-            ("log", []) => tell(&self.log, told),
-            _ => {
-                self.act(call, words)?;
-                told.ok()
-            }
+        match call {
+            "hold" => told.yes(self.outbox.hold(answer_to(words.number_16()))),
+            "fits" => told.yes(self.outbox.fits(&room(words))),
+            "held_len" => told.number(self.outbox.held_len()),
+            "outputs" => tell(self.outbox.outputs(), told),
+            "log" => tell(&self.log, told),
+            _ => self.act(call, words)?,
         }
+        Ok(())
     }
 }

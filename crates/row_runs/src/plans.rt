@@ -1,8 +1,8 @@
 //! What a file says of the group, and the list of what an input has a Sentinel put out.
 
 use crate::events::{node, tell_node};
-use crate::given::{addr, number, number_16, says, text};
 use crate::told::{Told, Unplayed};
+use crate::words::Words;
 use ballot_law::NodeName;
 use sentinel_conf::read;
 use sentinel_rules::{Frame, Profile};
@@ -10,7 +10,7 @@ use sentinel_state::{Core, FrameList, Plan};
 use std::alloc::Global;
 
 /// The greatest place of a data node.
-const PLACE_MAX: u64 = 256;
+const PLACE_MAX: usize = 256;
 
 /// A plan and a list; none before they were made.
 #[derive(Drop)]
@@ -32,127 +32,132 @@ fn plan_of(alloc: Global, file: &[u8]) -> Result<Box<Plan>, Unplayed> {
 /// won an election.
 fn tell_opened(alloc: Global, plan: &Plan, now: u64, told: &mut Told) -> Result<(), Unplayed> {
     let core = Box::new(alloc, Core::open(alloc, plan, now)?)?;
-    told.number(core.kept().current)?;
+    told.number(core.kept().current);
     for master in 0..plan.master_count() {
-        told.number(core.voted(master))?;
+        told.number(core.voted(master));
     }
-    told.yes(core.won().is_some())
+    told.yes(core.won().is_some());
+    Ok(())
+}
+
+/// Tells the addresses of a master's nodes.
+fn tell_nodes(plan: &Plan, master: u16, told: &mut Told) {
+    for node in plan.nodes(master) {
+        told.address(*node);
+    }
+    told.nothing();
 }
 
 /// Tells what a plan says of the master with a number.
 fn tell_master(plan: &Plan, call: &str, master: u16, told: &mut Told) -> Result<(), Unplayed> {
-    match call {
-        "after" => return told.number(plan.settings(master).after_ms),
-        "timeout" => return told.number(plan.settings(master).timeout),
-        "nodes" => {
-            for node in plan.nodes(master) {
-                told.address(*node)?;
-            }
-            return told.nothing();
-        }
-        _ => {}
-    }
     if master >= plan.master_count() {
         return Err(Unplayed::OutOfRange);
     }
     match call {
         "name" => told.bytes(plan.name(master).as_slice()),
-        "quorum" => told.number(u64::from(plan.quorum(master))),
-        "need" => told.number(u64::from(plan.need(master))),
-        _ => Err(Unplayed::NoSuchCall),
+        "quorum" => told.number(plan.quorum(master)),
+        "need" => told.number(plan.need(master)),
+        _ => return Err(Unplayed::NoSuchCall),
     }
+    Ok(())
 }
 
 /// Tells the master and the place of a node.
-fn tell_place(plan: &Plan, name: NodeName, told: &mut Told) -> Result<(), Unplayed> {
+fn tell_place(plan: &Plan, name: NodeName, told: &mut Told) {
     match plan.node_named(name) {
         Some(at) => {
-            told.number(u64::from(at.master))?;
-            told.number(u64::from(at.place))
+            told.number(at.master);
+            told.number(at.place);
         }
         None => told.word("None"),
     }
 }
 
-/// The name of the node at a place of a master.
-fn name_at(plan: &Plan, master: u16, place: u64) -> Result<NodeName, Unplayed> {
+/// Tells the name of the node at a place of a master.
+fn tell_name(plan: &Plan, words: &mut Words, told: &mut Told) {
+    let (master, place) = (words.number_16(), words.size());
     if place > PLACE_MAX {
-        return Err(Unplayed::OutOfRange);
+        return words.refuse();
     }
-    Ok(plan.node_name(master, place as usize))
+    tell_node(plan.node_name(master, place), told);
 }
 
 /// Tells the answer to a question about a plan.
-fn ask(plan: &Plan, call: &str, words: &[Vec<u8>], told: &mut Told) -> Result<(), Unplayed> {
-    match (call, words) {
-        ("place", []) => told.number(u64::from(plan.place())),
-        ("me", []) => told.maybe_id(Some(plan.me())),
-        ("group_size", []) => told.number(u64::from(plan.group_size())),
-        ("master_count", []) => told.number(u64::from(plan.master_count())),
-        ("port", []) => told.number(u64::from(plan.conf().port())),
-        ("sentinels", []) => told.number(plan.roster().sentinels().len() as u64),
-        ("node_named", [name]) => tell_place(plan, node(name)?, told),
-        ("node_name", [master, place]) => {
-            tell_node(name_at(plan, number_16(master)?, number(place)?)?, told)
-        }
-        ("node_place", [master, at]) => {
-            told.number(plan.node_place(number_16(master)?, addr(at)?) as u64)
-        }
-        (call, [master]) => tell_master(plan, call, number_16(master)?, told),
-        _ => Err(Unplayed::NoSuchCall),
+fn ask(plan: &Plan, call: &str, words: &mut Words, told: &mut Told) -> Result<(), Unplayed> {
+    match call {
+        "place" => told.number(plan.place()),
+        "me" => told.id(plan.me()),
+        "group_size" => told.number(plan.group_size()),
+        "master_count" => told.number(plan.master_count()),
+        "port" => told.number(plan.conf().port()),
+        "sentinels" => told.number(plan.roster().sentinels().len()),
+        "node_named" => tell_place(plan, node(words), told),
+        "node_name" => tell_name(plan, words, told),
+        "node_place" => told.number(plan.node_place(words.number_16(), words.addr())),
+        "after" => told.number(plan.settings(words.number_16()).after_ms),
+        "timeout" => told.number(plan.settings(words.number_16()).timeout),
+        "nodes" => tell_nodes(plan, words.number_16(), told),
+        _ => return tell_master(plan, call, words.number_16(), told),
     }
+    Ok(())
 }
 
 /// The PING or the INFO to a node.
-fn frame(kind: &[u8], to: &[u8]) -> Result<Frame, Unplayed> {
-    match text(kind)? {
-        "ping" => Ok(Frame::PingTo(node(to)?)),
-        "info" => Ok(Frame::InfoTo(node(to)?)),
-        _ => Err(Unplayed::WrongWords),
+fn frame(words: &mut Words) -> Frame {
+    if words.says(b"ping", b"info") {
+        Frame::PingTo(node(words))
+    } else {
+        Frame::InfoTo(node(words))
+    }
+}
+
+/// Tells a PING or an INFO of a list.
+fn tell_frame(frame: &Frame, told: &mut Told) {
+    match frame {
+        Frame::PingTo(to) => {
+            told.word("ping");
+            tell_node(*to, told);
+        }
+        Frame::InfoTo(to) => {
+            told.word("info");
+            tell_node(*to, told);
+        }
+        _ => told.word("another-frame"),
     }
 }
 
 /// Tells the PINGs and INFOs of a list.
-fn tell_frames(frames: &[Frame], told: &mut Told) -> Result<(), Unplayed> {
+fn tell_frames(frames: &[Frame], told: &mut Told) {
     for frame in frames {
-        let (kind, to) = match frame {
-            Frame::PingTo(to) => ("ping", *to),
-            Frame::InfoTo(to) => ("info", *to),
-            _ => return Err(Unplayed::OutOfRange),
-        };
-        told.word(kind)?;
-        tell_node(to, told)?;
+        tell_frame(frame, told);
     }
-    told.nothing()
+    told.nothing();
+}
+
+/// Adds the PING or the INFO to a node so many times.
+fn push(frames: &mut FrameList, words: &mut Words) {
+    let (times, frame) = (words.number(), frame(words));
+    for _ in 0..times {
+        frames.push(frame);
+    }
 }
 
 /// Tells what comes of a call of a list.
 fn list(
     frames: &mut FrameList,
     call: &str,
-    words: &[Vec<u8>],
+    words: &mut Words,
     told: &mut Told,
 ) -> Result<(), Unplayed> {
-    match (call, words) {
-        ("push", [times, kind, to]) => {
-            let frame = frame(kind, to)?;
-            for _ in 0..number(times)? {
-                frames.push(frame);
-            }
-            told.ok()
-        }
-        ("push_if", [test, kind, to]) => {
-            frames.push_if(says(test, "true", "false")?, frame(kind, to)?);
-            told.ok()
-        }
-        ("frames", []) => tell_frames(frames.as_slice(), told),
-        ("len", []) => told.number(frames.as_slice().len() as u64),
-        ("clear", []) => {
-            frames.clear();
-            told.ok()
-        }
-        _ => Err(Unplayed::NoSuchCall),
+    match call {
+        "push" => push(frames, words),
+        "push_if" => frames.push_if(words.says(b"true", b"false"), frame(words)),
+        "frames" => tell_frames(frames.as_slice(), told),
+        "len" => told.number(frames.as_slice().len()),
+        "clear" => frames.clear(),
+        _ => return Err(Unplayed::NoSuchCall),
     }
+    Ok(())
 }
 
 impl Plans {
@@ -165,31 +170,35 @@ impl Plans {
         }
     }
 
+    /// Tells what comes of a call of the plan, or of the list where there is none.
+    fn play_made(
+        &mut self,
+        call: &str,
+        words: &mut Words,
+        told: &mut Told,
+    ) -> Result<(), Unplayed> {
+        match (&self.plan, &mut self.frames) {
+            (Some(plan), _) if call == "opened" => {
+                tell_opened(self.alloc, plan, words.number(), told)
+            }
+            (Some(plan), _) => ask(plan, call, words, told),
+            (None, Some(frames)) => list(frames, call, words, told),
+            _ => Err(Unplayed::OutOfRange),
+        }
+    }
+
     /// Tells what comes of a call with these words.
     pub(crate) fn play(
         &mut self,
         call: &str,
-        words: &[Vec<u8>],
+        words: &mut Words,
         told: &mut Told,
     ) -> Result<(), Unplayed> {
-        match (call, words) {
-            ("plan", [file]) => {
-                self.plan = Some(plan_of(self.alloc, file)?);
-                return told.ok();
-            }
-            ("list", []) => {
-                self.frames = Some(FrameList::with_room(self.alloc)?);
-                return told.ok();
-            }
-            _ => {}
+        match call {
+            "plan" => self.plan = Some(plan_of(self.alloc, words.next())?),
+            "list" => self.frames = Some(FrameList::with_room(self.alloc)?),
+            _ => return self.play_made(call, words, told),
         }
-        match (&self.plan, &mut self.frames, words) {
-            (Some(plan), _, [now]) if call == "opened" => {
-                tell_opened(self.alloc, plan, number(now)?, told)
-            }
-            (Some(plan), _, words) => ask(plan, call, words, told),
-            (None, Some(frames), words) => list(frames, call, words, told),
-            _ => Err(Unplayed::OutOfRange),
-        }
+        Ok(())
     }
 }

@@ -4,8 +4,8 @@ ghost use Rattle.std.specs.Prelude.{◌<◌, length, IsTrue};
 ghost use Rattle.ballot_law.specs.Rosters.{size};
 
 use crate::conf_files::conf_of;
-use crate::given::{address, number, number_16};
 use crate::told::{Told, Unplayed};
+use crate::words::Words;
 use ballot_law::{Advertisement, Card, Election, Roster};
 use fault_world::{Entry, Report};
 use resp2::OutText;
@@ -19,14 +19,11 @@ fn are_in(roster: &Roster, sentinel: u16, master: u16) -> bool
 }
 
 /// The entry of the election of a Sentinel for a master in an epoch.
-fn elected(roster: &Roster, words: &[Vec<u8>]) -> Result<Entry, Unplayed> {
-    let [sentinel, master, epoch] = words else {
-        return Err(Unplayed::WrongWords);
-    };
+fn elected(roster: &Roster, words: &mut Words) -> Result<Entry, Unplayed> {
     let election = Election {
-        sentinel: number_16(sentinel)?,
-        master: number_16(master)?,
-        epoch: number(epoch)?,
+        sentinel: words.number_16(),
+        master: words.number_16(),
+        epoch: words.number(),
     };
     if !are_in(roster, election.sentinel, election.master) {
         return Err(Unplayed::WrongWords);
@@ -35,16 +32,13 @@ fn elected(roster: &Roster, words: &[Vec<u8>]) -> Result<Entry, Unplayed> {
 }
 
 /// The entry of what a Sentinel showed of a master: an epoch, and an address.
-fn said(roster: &Roster, words: &[Vec<u8>]) -> Result<Entry, Unplayed> {
-    let [sentinel, master, epoch, ip, port] = words else {
-        return Err(Unplayed::WrongWords);
-    };
+fn said(roster: &Roster, words: &mut Words) -> Result<Entry, Unplayed> {
     let said = Advertisement {
-        sentinel: number_16(sentinel)?,
-        master: number_16(master)?,
+        sentinel: words.number_16(),
+        master: words.number_16(),
         card: Card {
-            epoch: number(epoch)?,
-            addr: address(ip, port)?,
+            epoch: words.number(),
+            addr: words.address(),
         },
     };
     if !are_in(roster, said.sentinel, said.master) {
@@ -54,33 +48,32 @@ fn said(roster: &Roster, words: &[Vec<u8>]) -> Result<Entry, Unplayed> {
 }
 
 /// Adds an entry after its word, which is `elected` or `said`.
-fn add_entry(
-    report: &mut Report,
-    roster: &Roster,
-    kind: &[u8],
-    words: &[Vec<u8>],
-) -> Result<(), Unplayed> {
-    let entry = match kind {
-        b"elected" => elected(roster, words)?,
-        b"said" => said(roster, words)?,
-        _ => return Err(Unplayed::WrongWords),
+fn add_entry(report: &mut Report, roster: &Roster, words: &mut Words) -> Result<(), Unplayed> {
+    let entry = if words.says(b"elected", b"said") {
+        elected(roster, words)?
+    } else {
+        said(roster, words)?
     };
     report.reserve(1)?;
     report.push(entry);
     Ok(())
 }
 
-/// Adds the entries of these words. A word `,` is between two.
-fn add_entries(report: &mut Report, roster: &Roster, words: &[Vec<u8>]) -> Result<(), Unplayed> {
-    for entry in words.split(|word| word.as_slice() == b",".as_slice()) {
-        if let [kind, words @ ..] = entry {
-            add_entry(report, roster, kind, words)?;
+/// Adds the entries of the words that are left. A word `,` is between two.
+fn add_entries(report: &mut Report, roster: &Roster, words: &mut Words) -> Result<(), Unplayed> {
+    if words.is_empty() {
+        return Ok(());
+    }
+    for _ in 0..words.len() {
+        add_entry(report, roster, words)?;
+        if !words.begin_with(b",") {
+            return Ok(());
         }
     }
     Ok(())
 }
 
-/// Tells the lines of a report after a text, and how many entries it has.
+/// Tells how many entries a report has, and its lines after a text.
 fn tell_lines(
     report: &Report,
     front: &[u8],
@@ -90,8 +83,9 @@ fn tell_lines(
     let mut text = OutText::new(alloc);
     text.add(front)?;
     report.lines(&mut text)?;
-    told.number(report.as_slice().len() as u64)?;
-    told.bytes(text.as_slice())
+    told.number(report.as_slice().len());
+    told.bytes(text.as_slice());
+    Ok(())
 }
 
 /// Tells what comes of a call with these words: the conf whose roster counts, the text before the lines, and the
@@ -99,14 +93,15 @@ fn tell_lines(
 pub(crate) fn play(
     alloc: Global,
     call: &str,
-    words: &[Vec<u8>],
+    words: &mut Words,
     told: &mut Told,
 ) -> Result<(), Unplayed> {
-    match (call, words) {
-        ("lines", [conf, front, entries @ ..]) => {
-            let conf = conf_of(alloc, conf)?;
+    match call {
+        "lines" => {
+            let conf = conf_of(alloc, words.next())?;
+            let front = words.next();
             let mut report = Report::new(alloc);
-            add_entries(&mut report, conf.roster(), entries)?;
+            add_entries(&mut report, conf.roster(), words)?;
             tell_lines(&report, front, alloc, told)
         }
         _ => Err(Unplayed::NoSuchCall),

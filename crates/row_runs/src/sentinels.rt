@@ -8,10 +8,10 @@ use crate::commands::value_of;
 use crate::counted_files::CountedFile;
 use crate::events::event;
 use crate::frames::tell_value;
-use crate::given::{addr, number, number_16, number_32, says};
 use crate::message_rows::{is_hello, is_routine, tell_output};
 use crate::noticed::tell_notice;
 use crate::told::{Told, Unplayed};
+use crate::words::Words;
 use ballot_law::{Card, Event, Input, Output};
 use conf_lines::ConfKind;
 use resp2::{OutText, push_bulk, push_size};
@@ -50,13 +50,11 @@ struct Rules {
     reboot_ms: u64,
 }
 
-/// Those of this profile, by which a master may load its data for ever.
-fn rules_of(profile: Profile) -> Rules {
-    Rules {
-        profile,
-        reboot_ms: 0,
-    }
-}
+/// Those of a strict one.
+const STRICT: Rules = Rules {
+    profile: Profile::Strict,
+    reboot_ms: 0,
+};
 
 /// A Sentinel of these rules that opens with this file, at this reading of its clock.
 fn opened(alloc: Global, file: &[u8], rules: Rules, now: u64) -> Result<Box<Sentinel>, Unplayed>
@@ -94,7 +92,7 @@ impl Lone {
 
     /// Opens a strict one in a box.
     pub(crate) fn boxed(alloc: Global, file: &[u8], now: u64) -> Result<Box<Lone>, Unplayed> {
-        Lone::boxed_as(alloc, file, rules_of(Profile::Strict), now)
+        Lone::boxed_as(alloc, file, STRICT, now)
     }
 
     /// Opens one of these rules in a box.
@@ -179,12 +177,12 @@ impl Lone {
     ) -> Result<Vec<u8>, Unplayed> {
         let mut written = Vec::with_capacity(self.alloc, ROOM)?;
         match self.serve(now, &mut Cursor::new(bytes), &mut written)? {
-            Ok(served) => told.number(served.answers)?,
+            Ok(served) => told.number(served.answers),
             Err(ServeFault::NoMemory) => {
                 self.part = written;
                 return Err(Unplayed::NoMemory);
             }
-            Err(fault) => told.shown(&fault)?,
+            Err(fault) => told.shown(&fault),
         }
         if !written.starts_with(&self.part) {
             return Err(Unplayed::Changed);
@@ -195,7 +193,8 @@ impl Lone {
     /// Tells what these bytes get.
     fn tell_served(&mut self, now: u64, bytes: &[u8], told: &mut Told) -> Result<(), Unplayed> {
         let written = self.serve_bytes(now, bytes, told)?;
-        told.bytes(&written)
+        told.bytes(&written);
+        Ok(())
     }
 
     /// Tells the answer to the command of these words, in a stream of its own.
@@ -211,49 +210,57 @@ impl Lone {
             push_bulk(&mut text, word)?;
         }
         let written = self.serve_bytes(now, text.as_slice(), told)?;
-        tell_value(&value_of(self.alloc, &written)?, told)
+        tell_value(&value_of(self.alloc, &written)?, told);
+        Ok(())
     }
 
     /// Tells the election and the new configuration of the first master that the last input brought.
-    fn tell_changes(&mut self, told: &mut Told) -> Result<(), Unplayed> {
+    fn tell_changes(&mut self, told: &mut Told) {
         if let Some((master, epoch)) = self.sentinel.won() {
-            told.word("elected")?;
-            told.number(u64::from(master))?;
-            told.number(epoch)?;
+            told.word("elected");
+            told.number(master);
+            told.number(epoch);
         }
         let card = self.sentinel.address_now(0);
         if card != self.card {
-            told.word("stored")?;
-            tell_card(card, told)?;
+            told.word("stored");
+            tell_card(card, told);
             self.card = card;
         }
-        Ok(())
+    }
+
+    /// Takes an input, stores and releases; a fault is told. Whether there was none.
+    fn step(&mut self, now: u64, event: Event, told: &mut Told) -> bool
+        requires { IsWithinEvent event }
+    {
+        if let Err(fault) = self.take(now, event) {
+            told.shown(&fault);
+            return false;
+        }
+        if let Err(fault) = self.store() {
+            told.shown(&fault);
+            return false;
+        }
+        if let Err(fault) = self.release() {
+            told.shown(&fault);
+            return false;
+        }
+        true
     }
 
     /// Takes an input, stores and releases; tells what is sent and told, but PING, INFO and hellos unless all is
     /// wanted, and what changed.
-    fn give(
-        &mut self,
-        now: u64,
-        words: &[Vec<u8>],
-        all: bool,
-        told: &mut Told,
-    ) -> Result<(), Unplayed> {
+    fn give(&mut self, words: &mut Words, all: bool, told: &mut Told) -> Result<(), Unplayed> {
+        let now = words.number();
         let event = event(self.alloc, words)?;
         self.outbox.clear();
         self.outbox.drop_held();
-        if let Err(fault) = self.take(now, event) {
-            return told.shown(&fault);
+        if self.step(now, event, told) {
+            self.tell_outputs(all, told)?;
+            self.tell_changes(told);
+            told.nothing();
         }
-        if let Err(fault) = self.store() {
-            return told.shown(&fault);
-        }
-        if let Err(fault) = self.release() {
-            return told.shown(&fault);
-        }
-        self.tell_outputs(all, told)?;
-        self.tell_changes(told)?;
-        told.nothing()
+        Ok(())
     }
 
     /// Tells what is shown.
@@ -273,113 +280,128 @@ impl Lone {
                 tell_output(self.alloc, self.sentinel.roster(), output, told)?;
             }
         }
-        told.nothing()
+        told.nothing();
+        Ok(())
     }
 
     /// Tells what its rules noted that wasn't told yet.
-    fn tell_notices(&self, told: &mut Told) -> Result<(), Unplayed> {
+    fn tell_notices(&self, told: &mut Told) {
         for _ in 0..NOTICES_MAX {
             let Some(notice) = self.sentinel.take_notice() else {
                 return told.nothing();
             };
-            tell_notice(notice, told)?;
+            tell_notice(notice, told);
+        }
+    }
+
+    /// Takes an input; tells whether that changed what is to be stored.
+    fn tell_taken(&mut self, words: &mut Words, told: &mut Told) -> Result<(), Unplayed> {
+        let now = words.number();
+        let event = event(self.alloc, words)?;
+        self.outbox.clear();
+        match self.take(now, event) {
+            Ok(took) => told.either(took.changed, "changed", "unchanged"),
+            Err(fault) => told.shown(&fault),
         }
         Ok(())
+    }
+
+    /// Stores; a fault is told.
+    fn tell_stored(&mut self, told: &mut Told) {
+        if let Err(fault) = self.store() {
+            told.shown(&fault);
+        }
+    }
+
+    /// Releases; a fault is told.
+    fn tell_released(&mut self, told: &mut Told) {
+        if let Err(fault) = self.release() {
+            told.shown(&fault);
+        }
+    }
+
+    /// Stops it.
+    fn stop(&mut self) {
+        self.is_ready = false;
+        self.sentinel.stop();
     }
 
     /// Tells what comes of a call in the order of an input.
     fn play_turn(
         &mut self,
         call: &str,
-        words: &[Vec<u8>],
+        words: &mut Words,
         told: &mut Told,
     ) -> Result<(), Unplayed> {
-        match (call, words) {
-            ("take", [now, words @ ..]) => {
-                let event = event(self.alloc, words)?;
-                self.outbox.clear();
-                match self.take(number(now)?, event) {
-                    Ok(Took { changed: true }) => told.word("changed"),
-                    Ok(Took { changed: false }) => told.word("unchanged"),
-                    Err(fault) => told.shown(&fault),
-                }
-            }
-            ("store", []) => match self.store() {
-                Ok(()) => told.ok(),
-                Err(fault) => told.shown(&fault),
-            },
-            ("release", []) => match self.release() {
-                Ok(()) => told.ok(),
-                Err(fault) => told.shown(&fault),
-            },
-            ("stop", []) => {
-                self.is_ready = false;
-                self.sentinel.stop();
-                told.ok()
-            }
-            ("start", [now]) => {
-                self.start_again(number(now)?)?;
-                told.ok()
-            }
-            _ => self.play_question(call, words, told),
+        match call {
+            "take" => self.tell_taken(words, told)?,
+            "store" => self.tell_stored(told),
+            "release" => self.tell_released(told),
+            "stop" => self.stop(),
+            "start" => self.start_again(words.number())?,
+            "hellos" => self.tell_hellos(told)?,
+            "kept" => tell_kept(self.alloc, self.file.text(), told)?,
+            _ => return self.play_question(call, words, told),
         }
+        Ok(())
     }
 
     /// Tells the answer to a question about it.
     fn play_question(
         &self,
         call: &str,
-        words: &[Vec<u8>],
+        words: &mut Words,
         told: &mut Told,
     ) -> Result<(), Unplayed> {
-        match (call, words) {
-            ("shown", []) => told.number(self.outbox.outputs().len() as u64),
-            ("hellos", []) => self.tell_hellos(told),
-            ("notices", []) => self.tell_notices(told),
-            ("text", []) => told.bytes(self.file.text()),
-            ("kept", []) => tell_kept(self.alloc, self.file.text(), told),
-            ("writes", []) => told.number(self.file.writes()),
-            ("failures", []) => told.number(self.file.failures()),
-            ("card", [master]) => tell_card(self.sentinel.address_now(number_16(master)?), told),
-            ("won", []) => told.maybe_number(self.sentinel.won().map(|won| won.1)),
-            ("place", []) => told.number(u64::from(self.sentinel.place())),
-            ("master_at", [at]) => {
-                let master = self.sentinel.roster().master_at(addr(at)?);
-                told.maybe_number(master.map(u64::from))
-            }
-            ("is_stopped", []) => told.yes(self.sentinel.is_stopped()),
-            _ => Err(Unplayed::NoSuchCall),
+        match call {
+            "shown" => told.number(self.outbox.outputs().len()),
+            "notices" => self.tell_notices(told),
+            "text" => told.bytes(self.file.text()),
+            "writes" => told.number(self.file.writes()),
+            "failures" => told.number(self.file.failures()),
+            "card" => tell_card(self.sentinel.address_now(words.number_16()), told),
+            "won" => tell_won(self.sentinel.won(), told),
+            "place" => told.number(self.sentinel.place()),
+            "master_at" => told.maybe_number(self.sentinel.roster().master_at(words.addr())),
+            "is_stopped" => told.yes(self.sentinel.is_stopped()),
+            _ => return Err(Unplayed::NoSuchCall),
         }
+        Ok(())
     }
 
     /// Tells what comes of a call with these words.
-    fn play(&mut self, call: &str, words: &[Vec<u8>], told: &mut Told) -> Result<(), Unplayed> {
-        match (call, words) {
-            ("at", [now, words @ ..]) => self.give(number(now)?, words, false, told),
-            ("all", [now, words @ ..]) => self.give(number(now)?, words, true, told),
-            ("serve", [now, bytes]) => self.tell_served(number(now)?, bytes, told),
-            ("ask", [now, words @ ..]) => self.tell_answer(number(now)?, words, told),
-            ("refuse_after", [passes, left]) => {
-                let is_new = says(left, "new", "old")?;
-                self.file.refuse_after(number_32(passes)?, is_new);
-                told.ok()
+    fn play(&mut self, call: &str, words: &mut Words, told: &mut Told) -> Result<(), Unplayed> {
+        match call {
+            "at" => self.give(words, false, told)?,
+            "all" => self.give(words, true, told)?,
+            "serve" => self.tell_served(words.number(), words.next(), told)?,
+            "ask" => self.tell_answer(words.number(), words.rest(), told)?,
+            "refuse_after" => {
+                self.file
+                    .refuse_after(words.number_32(), words.says(b"new", b"old"));
             }
-            ("lose_room", []) => {
-                self.outbox = Outbox::new(self.alloc);
-                told.ok()
-            }
-            _ => self.play_turn(call, words, told),
+            "lose_room" => self.outbox = Outbox::new(self.alloc),
+            _ => return self.play_turn(call, words, told),
         }
+        Ok(())
     }
 }
 
 /// Tells a configuration: its epoch and its address.
-fn tell_card(card: Option<Card>, told: &mut Told) -> Result<(), Unplayed> {
+fn tell_card(card: Option<Card>, told: &mut Told) {
     match card {
         Some(card) => {
-            told.number(card.epoch)?;
-            told.address(card.addr)
+            told.number(card.epoch);
+            told.address(card.addr);
         }
+        None => told.word("None"),
+    }
+}
+
+/// Tells the epoch of an election that was won.
+fn tell_won(won: Option<(u16, u64)>, told: &mut Told) {
+    match won {
+        Some((_, epoch)) => told.number(epoch),
         None => told.word("None"),
     }
 }
@@ -390,9 +412,9 @@ fn tell_kept(alloc: Global, file: &[u8], told: &mut Told) -> Result<(), Unplayed
         return Err(Unplayed::NoMemory);
     };
     let conf = Box::new(alloc, conf)?;
-    told.number(conf.kept().current)?;
+    told.number(conf.kept().current);
     for master in conf.kept().masters.as_slice() {
-        told.number(master.voted)?;
+        told.number(master.voted);
     }
     Ok(())
 }
@@ -410,36 +432,30 @@ impl Sentinels {
         Sentinels { alloc, lone: None }
     }
 
+    /// Opens one of this profile with a file; its first master may load its data for so many milliseconds.
+    fn open(&mut self, profile: Profile, words: &mut Words, waits: bool) -> Result<(), Unplayed> {
+        let (file, now) = (words.next(), words.number());
+        let reboot_ms = if waits { words.number() } else { 0 };
+        let rules = Rules { profile, reboot_ms };
+        self.lone = Some(Lone::ready(self.alloc, file, rules, now)?);
+        Ok(())
+    }
+
     /// Tells what comes of a call with these words.
     pub(crate) fn play(
         &mut self,
         call: &str,
-        words: &[Vec<u8>],
+        words: &mut Words,
         told: &mut Told,
     ) -> Result<(), Unplayed> {
-        match (call, words) {
-            ("open", [file, now]) => {
-                let rules = rules_of(Profile::Strict);
-                self.lone = Some(Lone::ready(self.alloc, file, rules, number(now)?)?);
-                told.ok()
-            }
-            ("open-as-redis", [file, now]) => {
-                let rules = rules_of(Profile::Redis);
-                self.lone = Some(Lone::ready(self.alloc, file, rules, number(now)?)?);
-                told.ok()
-            }
-            ("open-with-reboot", [file, now, ms]) => {
-                let rules = Rules {
-                    profile: Profile::Redis,
-                    reboot_ms: number(ms)?,
-                };
-                self.lone = Some(Lone::ready(self.alloc, file, rules, number(now)?)?);
-                told.ok()
-            }
-            _ => {
-                let lone = self.lone.as_mut().ok_or(Unplayed::OutOfRange)?;
-                lone.play(call, words, told)
-            }
+        match call {
+            "open" => self.open(Profile::Strict, words, false),
+            "open-as-redis" => self.open(Profile::Redis, words, false),
+            "open-with-reboot" => self.open(Profile::Redis, words, true),
+            _ => match &mut self.lone {
+                Some(lone) => lone.play(call, words, told),
+                None => Err(Unplayed::OutOfRange),
+            },
         }
     }
 }

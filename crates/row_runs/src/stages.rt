@@ -1,4 +1,4 @@
-//! What the rows of a section act on, one after another.
+//! What the rows of a section act on, one after another, and the modules that play them.
 
 use crate::best_replica::Replicas;
 use crate::broken_streams::BrokenStreams;
@@ -13,6 +13,12 @@ use crate::rosters_in_order::Rosters;
 use crate::sentinels::Sentinels;
 use crate::told::{Told, Unplayed};
 use crate::votes_and_elections::Votes;
+use crate::words::Words;
+use crate::{
+    answers, bounded_lists, channels, checked_files, commands, conf_files, courtesies, frames,
+    hellos, infos, link_talks, message_rows, names_and_texts, node_talks, reports, roles,
+    scenario_lines, stores, watch_confs, words_and_numbers,
+};
 use std::alloc::Global;
 use std::sync::Wait;
 
@@ -80,7 +86,7 @@ impl Stage {
         &mut self,
         wait: &R,
         call: &str,
-        words: &[Vec<u8>],
+        words: &mut Words,
         told: &mut Told,
     ) -> Result<(), Unplayed> {
         match self {
@@ -99,5 +105,42 @@ impl Stage {
             Stage::Outboxes(outboxes) => outboxes.play(call, words, told),
             Stage::Conversations(conversations) => conversations.play(wait, call, words, told),
         }
+    }
+}
+
+/// Tells what comes of a call with these words, of a family each of whose rows is by itself. The family is the name of
+/// the row's file.
+pub(crate) fn play(
+    rt: &HostRuntime,
+    family: &str,
+    call: &str,
+    words: &mut Words,
+    told: &mut Told,
+) -> Result<(), Unplayed> {
+    let alloc = rt.alloc();
+    match family {
+        "answers" => answers::play(alloc, call, words, told),
+        "bounded_lists" => bounded_lists::play(alloc, call, words, told),
+        "channels" => channels::play(alloc, call, words, told),
+        "conf_files" => conf_files::play(alloc, call, words, told),
+        "commands" => commands::play(alloc, call, words, told),
+        "checked_files" => checked_files::play(alloc, call, words, told),
+        "courtesies" => courtesies::play(alloc, call, words, told),
+        "frames" | "long_frames" => frames::play(alloc, call, words, told),
+        "hellos" => hellos::play(alloc, call, words, told),
+        "infos" => infos::play(alloc, call, words, told),
+        "link_talks" => link_talks::play(alloc, call, words, told),
+        "message_bytes" | "message_lines" | "comments" | "deliveries_to_nodes" => {
+            message_rows::play(alloc, call, words, told)
+        }
+        "names_and_texts" => names_and_texts::play(alloc, call, words, told),
+        "node_talks" => node_talks::play(alloc, call, words, told),
+        "reports" => reports::play(alloc, call, words, told),
+        "scenario_lines" => scenario_lines::play(alloc, call, words, told),
+        "memory_stores" | "file_stores" | "refused_stores" => stores::play(rt, call, words, told),
+        "roles" => roles::play(alloc, call, words, told),
+        "watch_confs" => watch_confs::play(alloc, call, words, told),
+        "words_and_numbers" => words_and_numbers::play(alloc, call, words, told),
+        _ => Err(Unplayed::NoSuchFamily),
     }
 }

@@ -1,7 +1,7 @@
 //! Stores: one in memory, and a file on a disk.
 
-use crate::given::{number, number_32, text};
 use crate::told::{Told, Unplayed};
+use crate::words::Words;
 use sentinel_conf::{ConfStore, FileStore, FileText, LoadFault, MemoryStore};
 use std::alloc::Global;
 use std::fs::{self, Permissions};
@@ -14,10 +14,9 @@ fn put<S: ConfStore>(store: &mut S, text: &[u8]) -> bool {
 }
 
 /// Puts a text in the place of the one that is held, and tells whether it is stored and how many calls have failed.
-fn replace<S: ConfStore>(store: &mut S, text: &[u8], told: &mut Told) -> Result<(), Unplayed> {
-    let is_stored = put(store, text);
-    told.word(if is_stored { "stored" } else { "refused" })?;
-    told.number(store.failures())
+fn replace<S: ConfStore>(store: &mut S, text: &[u8], told: &mut Told) {
+    told.either(put(store, text), "stored", "refused");
+    told.number(store.failures());
 }
 
 /// The text that is held.
@@ -37,57 +36,44 @@ fn loaded<S: ConfStore>(store: &mut S) -> Result<FileText, LoadFault> {
 }
 
 /// Loads the text that is held, and tells it, or why not, and how many calls have failed.
-fn load<S: ConfStore>(store: &mut S, told: &mut Told) -> Result<(), Unplayed> {
+fn load<S: ConfStore>(store: &mut S, told: &mut Told) {
     match loaded(store) {
-        Ok(text) => told.bytes(text.as_slice())?,
-        Err(fault) => told.shown(&fault)?,
+        Ok(text) => told.bytes(text.as_slice()),
+        Err(fault) => told.shown(&fault),
     }
-    told.number(store.failures())
-}
-
-/// Which text is left where one is refused: whether the new one stands.
-fn is_new(left: &[u8]) -> Result<bool, Unplayed> {
-    match left {
-        b"new" => Ok(true),
-        b"old" => Ok(false),
-        _ => Err(Unplayed::WrongWords),
-    }
+    told.number(store.failures());
 }
 
 /// Takes a turn with a store in memory.
-fn take(store: &mut MemoryStore, turn: &[Vec<u8>], told: &mut Told) -> Result<(), Unplayed> {
-    let [call, words @ ..] = turn else {
-        return Err(Unplayed::WrongWords);
-    };
-    match (text(call)?, words) {
-        ("replace", [text]) => {
-            replace(store, text, told)?;
-            told.bytes(store.text())
+fn take(store: &mut MemoryStore, words: &mut Words, told: &mut Told) -> Result<(), Unplayed> {
+    match words.text() {
+        "replace" => {
+            replace(store, words.next(), told);
+            told.bytes(store.text());
         }
-        ("refuse_next", [left]) => {
-            store.refuse_next(is_new(left)?);
-            Ok(())
-        }
-        ("refuse_after", [passes, left]) => {
-            store.refuse_after(number_32(passes)?, is_new(left)?);
-            Ok(())
-        }
-        ("load", []) => load(store, told),
-        _ => Err(Unplayed::NoSuchCall),
+        "refuse_next" => store.refuse_next(words.says(b"new", b"old")),
+        "refuse_after" => store.refuse_after(words.number_32(), words.says(b"new", b"old")),
+        "load" => load(store, told),
+        _ => return Err(Unplayed::NoSuchCall),
     }
+    Ok(())
 }
 
 /// Takes turns with a store in memory. A word `,` is between two.
-fn take_all(mut store: MemoryStore, turns: &[Vec<u8>], told: &mut Told) -> Result<(), Unplayed> {
-    for turn in turns.split(|word| word.as_slice() == b",".as_slice()) {
-        take(&mut store, turn, told)?;
+fn take_all(mut store: MemoryStore, words: &mut Words, told: &mut Told) -> Result<(), Unplayed> {
+    for _ in 0..words.len() {
+        take(&mut store, words, told)?;
+        if !words.begin_with(b",") {
+            return Ok(());
+        }
     }
     Ok(())
 }
 
 /// Puts a text in a store that holds another one, once more where that lacked memory, and tells what is loaded then. A
 /// store that lacked memory is to hold what it held, and to count that.
-fn tell_put(alloc: Global, old: &[u8], new: &[u8], told: &mut Told) -> Result<(), Unplayed> {
+fn tell_put(alloc: Global, words: &mut Words, told: &mut Told) -> Result<(), Unplayed> {
+    let (old, new) = (words.next(), words.next());
     let mut store = MemoryStore::holding(alloc, old)?;
     if !put(&mut store, new) {
         let is_as_before = store.text() == old && store.failures() == 1;
@@ -97,28 +83,24 @@ fn tell_put(alloc: Global, old: &[u8], new: &[u8], told: &mut Told) -> Result<()
     }
     match loaded(&mut store) {
         Ok(text) => told.bytes(text.as_slice()),
-        Err(_) => Err(Unplayed::Changed),
+        Err(_) => return Err(Unplayed::Changed),
     }
+    Ok(())
 }
 
 /// The store at a path.
-fn store_at(rt: &HostRuntime, path: &[u8]) -> Result<FileStore<HostRuntime>, Unplayed> {
-    let store = FileStore::at(*rt, rt.alloc(), text(path)?)?;
-    Ok(store)
+fn store_at(rt: &HostRuntime, path: &str) -> Result<FileStore<HostRuntime>, Unplayed> {
+    Ok(FileStore::at(*rt, rt.alloc(), path)?)
 }
 
-/// Puts these texts in the file at a path, one after another, and tells what is loaded then.
-fn tell_file(
-    rt: &HostRuntime,
-    path: &[u8],
-    texts: &[Vec<u8>],
-    told: &mut Told,
-) -> Result<(), Unplayed> {
-    let mut store = store_at(rt, path)?;
-    for text in texts {
-        replace(&mut store, text, told)?;
+/// Puts texts in the file at a path, one after another, and tells what is loaded then.
+fn tell_file(rt: &HostRuntime, words: &mut Words, told: &mut Told) -> Result<(), Unplayed> {
+    let mut store = store_at(rt, words.text())?;
+    for text in words.rest() {
+        replace(&mut store, text, told);
     }
-    load(&mut store, told)
+    load(&mut store, told);
+    Ok(())
 }
 
 /// Makes a file of this mode at a path.
@@ -133,40 +115,41 @@ fn mode_of(rt: &HostRuntime, path: &str) -> io::Result<u32> {
     Ok(found.permissions().mode() & 0o777)
 }
 
-/// Makes a file of this mode at a path, puts another text in its place, and tells the mode of the file that is left.
-fn tell_mode(rt: &HostRuntime, path: &[u8], mode: &[u8], told: &mut Told) -> Result<(), Unplayed> {
-    let Ok(mode) = u32::from_str_radix(text(mode)?, 8) else {
-        return Err(Unplayed::WrongWords);
-    };
-    if make_file(rt, text(path)?, mode).is_err() {
+/// Makes a file of a mode at a path, puts another text in its place, and tells the mode of the file that is left.
+fn tell_mode(rt: &HostRuntime, words: &mut Words, told: &mut Told) -> Result<(), Unplayed> {
+    let (path, mode) = (words.text(), words.octal());
+    if make_file(rt, path, mode).is_err() {
         return Err(Unplayed::NoSuchFile);
     }
-    replace(&mut store_at(rt, path)?, b"port 26379\n", told)?;
-    match mode_of(rt, text(path)?) {
-        Ok(mode) => told.word(format!(in rt.alloc(); "{mode:o}")?.as_str()),
-        Err(_) => Err(Unplayed::NoSuchFile),
+    replace(&mut store_at(rt, path)?, b"port 26379\n", told);
+    match mode_of(rt, path) {
+        Ok(mode) => told.octal(mode),
+        Err(_) => return Err(Unplayed::NoSuchFile),
     }
+    Ok(())
 }
 
 /// Tells what comes of a call with these words.
 pub(crate) fn play(
     rt: &HostRuntime,
     call: &str,
-    words: &[Vec<u8>],
+    words: &mut Words,
     told: &mut Told,
 ) -> Result<(), Unplayed> {
     let alloc = rt.alloc();
-    match (call, words) {
-        ("holding", [text, turns @ ..]) => {
-            take_all(MemoryStore::holding(alloc, text)?, turns, told)
+    match call {
+        "holding" => take_all(MemoryStore::holding(alloc, words.next())?, words, told),
+        "with_room" => {
+            let room = words.size();
+            take_all(
+                MemoryStore::with_room(alloc, words.next(), room)?,
+                words,
+                told,
+            )
         }
-        ("with_room", [room, text, turns @ ..]) => {
-            let room = number(room)? as usize;
-            take_all(MemoryStore::with_room(alloc, text, room)?, turns, told)
-        }
-        ("replaced", [old, new]) => tell_put(alloc, old, new, told),
-        ("file_store", [path, texts @ ..]) => tell_file(rt, path, texts, told),
-        ("mode_after_a_store", [path, mode]) => tell_mode(rt, path, mode, told),
+        "replaced" => tell_put(alloc, words, told),
+        "file_store" => tell_file(rt, words, told),
+        "mode_after_a_store" => tell_mode(rt, words, told),
         _ => Err(Unplayed::NoSuchCall),
     }
 }

@@ -1,13 +1,12 @@
 //! What comes of a row, in words.
 
-use crate::spelling::add_spelling;
 use ballot_law::{Addr, NoMemory, RunId};
 use std::alloc::{AllocError, AllocFailed, Global};
 use std::fmt::Display;
 use tokens::{ip_text, run_id_text};
 
 /// Why a row isn't played.
-#[derive(Clone, Copy, PartialEq, Eq)]
+#[derive(Clone, Copy)]
 pub(crate) enum Unplayed {
     /// Memory was refused.
     NoMemory,
@@ -25,8 +24,6 @@ pub(crate) enum Unplayed {
     WrongWords,
     /// Nothing was made that the call acts on, or a number is beyond what it allows.
     OutOfRange,
-    /// The call told nothing.
-    NothingTold,
     /// A call that was refused memory left something else than it found: the same call was refused once more.
     Changed,
 }
@@ -43,7 +40,6 @@ impl Unplayed {
             Unplayed::NoSuchFile => "NoSuchFile",
             Unplayed::WrongWords => "WrongWords",
             Unplayed::OutOfRange => "OutOfRange",
-            Unplayed::NothingTold => "NothingTold",
             Unplayed::Changed => "Changed",
         }
     }
@@ -70,10 +66,15 @@ impl From<NoMemory> for Unplayed {
 /// How many bytes of what comes have room before a call is made, so that only the call itself can lack memory.
 const ROOM: usize = 65_536;
 
-/// Words that tell what comes, with a blank between two.
+/// The hexadecimal digits.
+const DIGITS: &[u8] = b"0123456789abcdef";
+
+/// Words that tell what comes, with a blank between two. Where memory lacks for a part of them that is noted, and `end`
+/// says it.
 #[derive(Drop)]
 pub(crate) struct Told {
     text: String,
+    is_cut: bool,
 }
 
 impl Told {
@@ -81,6 +82,7 @@ impl Told {
     pub(crate) fn new(alloc: Global) -> Told {
         Told {
             text: String::new(alloc),
+            is_cut: false,
         }
     }
 
@@ -88,6 +90,7 @@ impl Told {
     pub(crate) fn with_room(alloc: Global) -> Result<Told, Unplayed> {
         Ok(Told {
             text: String::with_capacity(alloc, ROOM)?,
+            is_cut: false,
         })
     }
 
@@ -96,75 +99,142 @@ impl Told {
         self.text.as_str()
     }
 
-    /// Begins a word.
-    fn begin(&mut self) -> Result<(), Unplayed> {
-        if !self.text.is_empty() {
-            self.text.push(' ')?;
+    /// Whether memory sufficed for the words.
+    pub(crate) fn whole(&self) -> Result<(), Unplayed> {
+        if self.is_cut {
+            return Err(Unplayed::NoMemory);
         }
         Ok(())
+    }
+
+    /// Ends the words: where there is none, `ok` says that the call was made, which gave nothing.
+    pub(crate) fn end(&mut self) -> Result<(), Unplayed> {
+        if self.text.is_empty() {
+            self.add("ok");
+        }
+        self.whole()
+    }
+
+    /// Adds a part of a word.
+    fn add(&mut self, part: &str) {
+        self.is_cut |= self.text.push_str(part).is_err();
+    }
+
+    /// Adds a character of a word.
+    fn push(&mut self, character: char) {
+        self.is_cut |= self.text.push(character).is_err();
+    }
+
+    /// Adds what is shown so as a part of a word.
+    fn part<T: Display>(&mut self, value: &T) {
+        self.is_cut |= write!(self.text, "{value}").is_err();
+    }
+
+    /// Adds the hexadecimal digit of a number below 16.
+    fn digit(&mut self, number: u8) {
+        if let Some(digit) = DIGITS.get(usize::from(number)) {
+            self.push(char::from(*digit));
+        }
+    }
+
+    /// Adds a byte as a row spells it.
+    fn byte(&mut self, byte: u8) {
+        match byte {
+            b'\r' => self.add("\\r"),
+            b'\n' => self.add("\\n"),
+            b'\t' => self.add("\\t"),
+            b' ' => self.add("\\s"),
+            b'\\' => self.add("\\x5c"),
+            33..=126 => self.push(char::from(byte)),
+            _ => {
+                self.add("\\x");
+                self.digit(byte / 16);
+                self.digit(byte % 16);
+            }
+        }
+    }
+
+    /// Adds bytes as a row spells them.
+    fn spell(&mut self, bytes: &[u8]) {
+        if bytes.is_empty() {
+            self.add("\\e");
+        }
+        for byte in bytes {
+            self.byte(*byte);
+        }
+    }
+
+    /// Begins a word.
+    fn begin(&mut self) {
+        if !self.text.is_empty() {
+            self.push(' ');
+        }
     }
 
     /// Adds a word, which has no blanks.
-    pub(crate) fn word(&mut self, word: &str) -> Result<(), Unplayed> {
-        self.begin()?;
-        self.text.push_str(word)?;
-        Ok(())
+    pub(crate) fn word(&mut self, word: &str) {
+        self.begin();
+        self.add(word);
     }
 
-    /// Adds that a call that gives nothing was made.
-    pub(crate) fn ok(&mut self) -> Result<(), Unplayed> {
-        self.word("ok")
+    /// Adds one of two words.
+    pub(crate) fn either(&mut self, is_first: bool, first: &str, second: &str) {
+        self.word(if is_first { first } else { second });
+    }
+
+    /// Adds `true` or `false`.
+    pub(crate) fn yes(&mut self, is_so: bool) {
+        self.either(is_so, "true", "false");
     }
 
     /// Adds `nothing` where no word was added.
-    pub(crate) fn nothing(&mut self) -> Result<(), Unplayed> {
+    pub(crate) fn nothing(&mut self) {
         if self.text.is_empty() {
-            return self.word("nothing");
+            self.add("nothing");
         }
-        Ok(())
     }
 
     /// Adds bytes as a word, as a row spells them.
-    pub(crate) fn bytes(&mut self, bytes: &[u8]) -> Result<(), Unplayed> {
-        self.begin()?;
-        add_spelling(&mut self.text, bytes)
+    pub(crate) fn bytes(&mut self, bytes: &[u8]) {
+        self.begin();
+        self.spell(bytes);
     }
 
     /// Adds bytes as a word after a mark.
-    pub(crate) fn marked(&mut self, mark: char, bytes: &[u8]) -> Result<(), Unplayed> {
-        self.begin()?;
-        self.text.push(mark)?;
-        add_spelling(&mut self.text, bytes)
-    }
-
-    /// Adds a number as a word after a mark.
-    pub(crate) fn signed(&mut self, mark: char, number: i64) -> Result<(), Unplayed> {
-        self.begin()?;
-        write!(self.text, "{mark}{number}")?;
-        Ok(())
+    pub(crate) fn marked(&mut self, mark: char, bytes: &[u8]) {
+        self.begin();
+        self.push(mark);
+        self.spell(bytes);
     }
 
     /// Adds what is shown so as a word.
-    pub(crate) fn shown<T: Display>(&mut self, value: &T) -> Result<(), Unplayed> {
-        self.begin()?;
-        write!(self.text, "{value}")?;
-        Ok(())
+    pub(crate) fn shown<T: Display>(&mut self, value: &T) {
+        self.begin();
+        self.part(value);
     }
 
     /// Adds a number as a word.
-    pub(crate) fn number(&mut self, number: u64) -> Result<(), Unplayed> {
-        self.shown(&number)
+    pub(crate) fn number<N: Copy + Display>(&mut self, number: N) {
+        self.shown(&number);
+    }
+
+    /// Adds a number as a word after a mark.
+    pub(crate) fn signed(&mut self, mark: char, number: i64) {
+        self.begin();
+        self.push(mark);
+        self.part(&number);
     }
 
     /// Adds a name and a number in brackets as a word.
-    pub(crate) fn numbered(&mut self, name: &str, number: u64) -> Result<(), Unplayed> {
-        self.begin()?;
-        write!(self.text, "{name}({number})")?;
-        Ok(())
+    pub(crate) fn numbered(&mut self, name: &str, number: u32) {
+        self.word(name);
+        self.push('(');
+        self.part(&number);
+        self.push(')');
     }
 
     /// Adds a number as a word, or `None`.
-    pub(crate) fn maybe_number(&mut self, number: Option<u64>) -> Result<(), Unplayed> {
+    pub(crate) fn maybe_number<N: Copy + Display>(&mut self, number: Option<N>) {
         match number {
             Some(number) => self.number(number),
             None => self.word("None"),
@@ -172,36 +242,41 @@ impl Told {
     }
 
     /// Adds a number as a word, in hexadecimal.
-    pub(crate) fn hexadecimal(&mut self, number: u128) -> Result<(), Unplayed> {
-        self.begin()?;
-        write!(self.text, "{number:x}")?;
-        Ok(())
+    pub(crate) fn hexadecimal(&mut self, number: u128) {
+        self.begin();
+        self.is_cut |= write!(self.text, "{number:x}").is_err();
     }
 
-    /// Adds `true` or `false`.
-    pub(crate) fn yes(&mut self, is_so: bool) -> Result<(), Unplayed> {
-        self.word(if is_so { "true" } else { "false" })
+    /// Adds a number as a word, in octal.
+    pub(crate) fn octal(&mut self, number: u32) {
+        self.begin();
+        self.is_cut |= write!(self.text, "{number:o}").is_err();
     }
 
     /// Adds an address as a word.
-    pub(crate) fn address(&mut self, addr: Addr) -> Result<(), Unplayed> {
-        self.bytes(ip_text(addr.ip).as_slice())?;
-        write!(self.text, ":{}", addr.port)?;
-        Ok(())
+    pub(crate) fn address(&mut self, addr: Addr) {
+        self.bytes(ip_text(addr.ip).as_slice());
+        self.push(':');
+        self.part(&addr.port);
     }
 
     /// Adds an address as a word, or `None`.
-    pub(crate) fn maybe_address(&mut self, addr: Option<Addr>) -> Result<(), Unplayed> {
+    pub(crate) fn maybe_address(&mut self, addr: Option<Addr>) {
         match addr {
             Some(addr) => self.address(addr),
             None => self.word("None"),
         }
     }
 
+    /// Adds a run id as a word.
+    pub(crate) fn id(&mut self, id: RunId) {
+        self.bytes(run_id_text(id).as_slice());
+    }
+
     /// Adds a run id as a word, or `None`.
-    pub(crate) fn maybe_id(&mut self, id: Option<RunId>) -> Result<(), Unplayed> {
+    pub(crate) fn maybe_id(&mut self, id: Option<RunId>) {
         match id {
-            Some(id) => self.bytes(run_id_text(id).as_slice()),
+            Some(id) => self.id(id),
             None => self.word("None"),
         }
     }

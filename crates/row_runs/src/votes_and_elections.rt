@@ -1,8 +1,7 @@
 //! The own vote of a Sentinel for one master, and the votes of others that it heard of.
 
-use crate::given::{id, maybe_id, number, number_16, number_32};
 use crate::told::{Told, Unplayed};
-use ballot_law::RunId;
+use crate::words::Words;
 use std::alloc::Global;
 use vote_book::{Heard, VoteBook, elected};
 
@@ -12,6 +11,37 @@ pub(crate) struct Votes {
     alloc: Global,
     book: VoteBook,
     heard: Heard,
+}
+
+/// What a Sentinel starts with: the current epoch, the epoch of its vote, and whom it is for.
+fn book(words: &mut Words) -> VoteBook {
+    let (current, voted, candidate) = (words.number(), words.number(), words.maybe_id());
+    if voted == 0 && candidate.is_some() {
+        words.refuse();
+        return VoteBook::of(0, 0, None);
+    }
+    VoteBook::of(current, voted, candidate)
+}
+
+/// Tells what comes of a call about the own vote, if it is one. Whether it is.
+fn play_book(held: &mut VoteBook, call: &str, words: &mut Words, told: &mut Told) -> bool {
+    match call {
+        "book" => *held = book(words),
+        "ask" => {
+            let answer = held.ask(words.number(), words.id());
+            told.maybe_id(answer.leader);
+            told.number(answer.epoch);
+        }
+        "campaign" => told.maybe_number(held.open_campaign()),
+        "raise" => held.raise(words.number()),
+        "current" => told.number(held.current()),
+        "voted" => {
+            told.maybe_id(held.leader());
+            told.number(held.voted());
+        }
+        _ => return false,
+    }
+    true
 }
 
 impl Votes {
@@ -24,92 +54,38 @@ impl Votes {
         })
     }
 
-    /// A Sentinel starts with these.
-    fn start(
-        &mut self,
-        current: u64,
-        voted: u64,
-        candidate: Option<RunId>,
-    ) -> Result<(), Unplayed> {
-        if voted == 0 && candidate.is_some() {
-            return Err(Unplayed::OutOfRange);
-        }
-        self.book = VoteBook::of(current, voted, candidate);
-        Ok(())
-    }
-
     /// A vote is heard.
-    fn hear(&mut self, voter: u16, candidate: RunId, epoch: u64) -> Result<(), Unplayed> {
+    fn hear(&mut self, words: &mut Words) {
+        let (voter, candidate) = (words.number_16(), words.id());
         if usize::from(voter) >= self.heard.voters() {
-            return Err(Unplayed::OutOfRange);
+            return words.refuse();
         }
-        self.heard.hear(voter, candidate, epoch);
-        Ok(())
+        self.heard.hear(voter, candidate, words.number());
     }
 
-    /// Tells what comes of a call about the own vote.
-    fn play_book(
-        &mut self,
-        call: &str,
-        words: &[Vec<u8>],
-        told: &mut Told,
-    ) -> Result<(), Unplayed> {
-        match (call, words) {
-            ("book", [current, voted, candidate]) => {
-                self.start(number(current)?, number(voted)?, maybe_id(candidate)?)?;
-                told.ok()
-            }
-            ("ask", [epoch, candidate]) => {
-                let answer = self.book.ask(number(epoch)?, id(candidate)?);
-                told.maybe_id(answer.leader)?;
-                told.number(answer.epoch)
-            }
-            ("campaign", []) => told.maybe_number(self.book.open_campaign()),
-            ("raise", [epoch]) => {
-                self.book.raise(number(epoch)?);
-                told.ok()
-            }
-            ("current", []) => told.number(self.book.current()),
-            ("voted", []) => {
-                told.maybe_id(self.book.leader())?;
-                told.number(self.book.voted())
-            }
-            _ => Err(Unplayed::NoSuchCall),
-        }
+    /// Tells whether a Sentinel is elected in an epoch.
+    fn tell_elected(&self, words: &mut Words, told: &mut Told) {
+        let (epoch, candidate) = (words.number(), words.id());
+        let need = words.number_32();
+        told.yes(elected(&self.book, &self.heard, epoch, candidate, need));
     }
 
     /// Tells what comes of a call with these words.
     pub(crate) fn play(
         &mut self,
         call: &str,
-        words: &[Vec<u8>],
+        words: &mut Words,
         told: &mut Told,
     ) -> Result<(), Unplayed> {
-        match (call, words) {
-            ("heard", [voters]) => {
-                self.heard = Heard::new(self.alloc, number_16(voters)?)?;
-                told.ok()
-            }
-            ("hear", [voter, candidate, epoch]) => {
-                self.hear(number_16(voter)?, id(candidate)?, number(epoch)?)?;
-                told.ok()
-            }
-            ("count", [epoch, candidate]) => {
-                let count = self.heard.count(number(epoch)?, id(candidate)?);
-                told.number(u64::from(count))
-            }
-            ("pick", [epoch, candidate]) => {
-                let pick = self.heard.pick(number(epoch)?, id(candidate)?);
-                told.maybe_id(Some(pick))
-            }
-            ("elected", [epoch, candidate, need]) => told.yes(elected(
-                &self.book,
-                &self.heard,
-                number(epoch)?,
-                id(candidate)?,
-                number_32(need)?,
-            )),
-            _ => self.play_book(call, words, told),
+        match call {
+            "heard" => self.heard = Heard::new(self.alloc, words.number_16())?,
+            "hear" => self.hear(words),
+            "count" => told.number(self.heard.count(words.number(), words.id())),
+            "pick" => told.id(self.heard.pick(words.number(), words.id())),
+            "elected" => self.tell_elected(words, told),
+            _ if play_book(&mut self.book, call, words, told) => {}
+            _ => return Err(Unplayed::NoSuchCall),
         }
+        Ok(())
     }
 }
