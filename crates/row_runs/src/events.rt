@@ -91,6 +91,10 @@ pub(crate) fn event(alloc: Global, words: &mut Words) -> Result<Event, Unplayed>
             node: node(words),
             reply: PingReply::Loading,
         }),
+        "noauth" => Ok(Event::Pinged {
+            node: node(words),
+            reply: PingReply::Other,
+        }),
         "refused" => Ok(Event::Refused { node: node(words) }),
         "lost" => Ok(Event::Disconnected { node: node(words) }),
         "info" => Ok(Event::InfoRead {

@@ -37,7 +37,7 @@ use Rattle.sentinel_rules.specs.declared.frames.Frame.{Frame}
 use Rattle.sentinel_rules.specs.Plans.{Plan, roster_of, group_size, master_count, settings_at, nodes_of, node_name, node_named}
 use Rattle.sentinel_rules.specs.States.{is_master_role, Core, MasterState, NodeState, master_of, node_of, peer_of, failover_of, card_place, is_failing_over, is_tilted, with_master, with_node, with_failover, with_card, is_handed, is_planned}
 use Rattle.sentinel_rules.specs.Parts.{Part, quiet, puts, part_if, frame_if}
-use Rattle.sentinel_rules.specs.News.{hello_soon, moved, at_same_address, at_new_address, card_taken, is_heeded, is_newer, raised_to, adopted, hello_of_known, hello_heeded, hello_read, reported, vote_heard, answer_of, answered, node_pinged, peer_pinged, pinged_at, pinged, node_lost, peer_lost, lost_at, connection_lost, disconnected, with_info, promotion, has_followed, reconfiguration, Wrong, wrong_of, can_be_followed, is_role_overdue, is_address_overdue, anew, correction, is_reconfiguring, judged, info_kept, info_at_node, info_of_node, info_read, closing_frames, with_frames, refusal_at, refusal_heard, peer_greeted, greeted_at, greeted, node_announced, announced_at}
+use Rattle.sentinel_rules.specs.News.{hello_soon, relocated, at_same_address, at_new_address, card_taken, is_heeded, is_newer, raised_to, adopted, hello_of_known, hello_heeded, hello_read, reported, vote_heard, answer_of, answered, node_pinged, peer_pinged, pinged_at, pinged, node_lost, peer_lost, lost_at, connection_lost, disconnected, with_info, promotion, has_followed, reconfiguration, Wrong, wrong_of, can_be_followed, is_role_overdue, is_address_overdue, anew, correction, is_reconfiguring, judged, info_kept, info_at_node, info_of_node, info_read, closing_frames, with_frames, refusal_at, refusal_heard, peer_greeted, greeted_at, greeted, node_announced, announced_at}
 use Rattle.sentinel_rules.specs.Facts.{IsSound, IsAwaited, awaited}
 use Rattle.sentinel_rules.specs.Profiles.{is_redis, candidate_place}
 use Rattle.sentinel_rules.proofs.KeptParts.{kept_at, kept_with, kept_raised, other_entry}
@@ -105,7 +105,7 @@ card_keeps plan m now card core s low there none = known (same_addr (card_of cor
               record {
                 heard = i.heard;
                 reports = length-map (master_of core m).reports (λ _. None) ∙ i.reports;
-                nodes = length-map (master_of core m).nodes (moved now) ∙ i.nodes;
+                nodes = length-map (master_of core m).nodes (relocated plan.profile now) ∙ i.nodes;
                 replicas = i.replicas;
                 own = i.own;
                 epoch = i.epoch;

@@ -91,7 +91,7 @@ a_vote_delays_the_own_campaign = refl
 
 pub a_switch_forgets_the_start : ASwitchForgetsTheStart
 unfolding on_literals
-a_switch_forgets_the_start = record { strict = refl; redis = refl }
+a_switch_forgets_the_start = record { strict_info = refl; redis_info = refl; strict = refl; redis = refl }
 
 pub a_lost_candidate_holds_nobody_back : ALostCandidateHoldsNobodyBack
 unfolding on_literals

@@ -31,8 +31,8 @@ use Rattle.ballot_law.specs.declared.node_places.NodePlace.{NodePlace}
 use Rattle.sentinel_rules.specs.Plans.{Plan, roster_of, me, group_size, master_count, settings_at, nodes_of, node_name, node_named}
 use Rattle.sentinel_rules.specs.States.{Core, is_master_role, says_master, MasterState, NodeState, PeerState, master_of, node_of, peer_of, failover_of, card_place, is_failing_over, is_tilted, is_planned, is_handed, is_master_down, with_master, with_node, with_failover, with_current, with_card}
 use Rattle.sentinel_rules.specs.Parts.{Part, quiet, puts, part_if, frame_if}
-use Rattle.sentinel_rules.specs.Contacts.{contact_replied, role_since_after}
-use Rattle.sentinel_rules.specs.Profiles.{is_redis, start_at_new_address, candidate_place}
+use Rattle.sentinel_rules.specs.Contacts.{new_contact, contact_replied, role_since_after}
+use Rattle.sentinel_rules.specs.Profiles.{by_profile, is_redis, start_at_new_address, candidate_place}
 
 -- A configuration is taken
 
@@ -44,13 +44,23 @@ hello_soon node = record node { hello_sent = None }
 abbrev pub moved : (now : ℕ) → NodeState → NodeState
 moved now node = record node { watch = after_change now node.watch; hello_sent = None; wrong_role = None; wrong_address = None; rebooted = None }
 
+-- what a node told by INFO is forgotten, and INFO is due at once; for those who ask, its times begin now. What the rules go by stays: since when it has been silent,
+-- its last reply, and whether the connection to it was lost; and whether it may be told to clients, until it tells again
+abbrev pub forgotten : (now : ℕ) → NodeState → NodeState
+forgotten now node = record node { info = None; info_at = None; info_sent = None; contact = new_contact now; role_since = now }
+
+-- Redis makes all that it keeps of the nodes anew at a new address, so that the row of a former master that is dead doesn't go on saying that it is a master. A
+-- strict Sentinel keeps what they told
+abbrev pub relocated : Profile → (now : ℕ) → NodeState → NodeState
+relocated profile now node = by_profile profile (moved now node) (forgotten now (moved now node))
+
 abbrev pub at_same_address : MasterState → MasterState
 at_same_address master = record master { nodes = map hello_soon master.nodes }
 
 abbrev pub at_new_address : Profile → (now : ℕ) → MasterState → MasterState
 at_new_address profile now master =
     record master {
-      nodes = map (moved now) master.nodes;
+      nodes = map (relocated profile now) master.nodes;
       reports = without_reports master.reports;
       failover = record master.failover { last_start = start_at_new_address profile master.failover.last_start };
     }
@@ -138,6 +148,10 @@ answered plan (PortAt number) m now addr down leader epoch core = core
 
 -- Replies to PING
 
+-- A lost connection stands until its node gives a valid reply: an error, such as that of a node that wants a password first, doesn't show that it serves this Sentinel
+abbrev pub lost_after : PingReply → (lost : Bool) → Bool
+lost_after reply lost = if is_valid reply then false else lost
+
 -- who answers that it loads its data goes on loading
 abbrev pub loading_after : PingReply → Option ℕ → Option ℕ
 loading_after Pong since = None
@@ -148,14 +162,14 @@ node_pinged now reply node =
     record node {
       watch = after_reply now reply node.watch;
       last_ping = if is_valid reply then Some now else node.last_ping;
-      lost = false;
+      lost = lost_after reply node.lost;
       rebooted = loading_after reply node.rebooted;
       contact = contact_replied now (is_valid reply) node.contact;
     }
 
 abbrev pub peer_pinged : (now : ℕ) → PingReply → PeerState → PeerState
 peer_pinged now reply peer =
-    record peer { watch = after_reply now reply peer.watch; lost = false; contact = contact_replied now (is_valid reply) peer.contact }
+    record peer { watch = after_reply now reply peer.watch; lost = lost_after reply peer.lost; contact = contact_replied now (is_valid reply) peer.contact }
 
 abbrev pub pinged_at : (now : ℕ) → PingReply → Option NodePlace → Core → Core
 pinged_at now reply None core = core
@@ -222,7 +236,8 @@ abbrev pub rebooted_after : (now : ℕ) → Option RunId → Option Info → Opt
 rebooted_after now id None since = since
 rebooted_after now id (Some before) since = if is_another before.id id then Some now else since
 
--- the INFO, its moment and its role are kept, whether the node was started again, and for those who ask since when it has said its role
+-- the INFO, its moment and its role are kept, whether the node was started again, and for those who ask since when it has said its role. Who tells INFO serves this
+-- Sentinel, as with a valid reply: one that wants a password first answers with an error, which is no INFO
 abbrev pub with_info : (now : ℕ) → Info → NodeState → NodeState
 with_info now info node =
     record node {

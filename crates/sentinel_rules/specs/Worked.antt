@@ -34,7 +34,7 @@ use Rattle.sentinel_conf.specs.declared.settings.Settings.{Settings}
 use Rattle.sentinel_conf.specs.declared.settings.TheConstants.{DEFAULT_SETTINGS}
 use Rattle.sentinel_rules.specs.declared.profiles.Profile.TheVariants.{Strict, Redis}
 use Rattle.sentinel_rules.specs.Plans.{Plan, roster_of}
-use Rattle.sentinel_rules.specs.States.{Core, opened, master_of, failover_of, is_wished}
+use Rattle.sentinel_rules.specs.States.{Core, opened, master_of, node_of, failover_of, is_wished}
 use Rattle.sentinel_rules.specs.Votes.{book_of}
 use Rattle.sentinel_rules.specs.Ticks.{count_of}
 use Rattle.sentinel_rules.specs.Answers.{master_row, replica_rows, sentinel_rows, usable_count}
@@ -345,9 +345,12 @@ AFailover =
 abbrev pub failover_plan : Plan
 failover_plan = group_plan (kept_at_epoch 0)
 
+abbrev pub inputs_until : (now : ℕ) → List (ℕ × Event)
+inputs_until now = filter (λ (input : ℕ × Event). nat_le input.0 now) failover_inputs
+
 -- the core of that failover at a reading
 abbrev pub failing_at : (now : ℕ) → Core
-failing_at now = core_of failover_plan (filter (λ (input : ℕ × Event). nat_le input.0 now) failover_inputs)
+failing_at now = core_of failover_plan (inputs_until now)
 
 abbrev pub state_at : (now : ℕ) → FailoverState
 state_at now = (failover_of (failing_at now) 0).state
@@ -520,8 +523,10 @@ AVoteDelaysTheOwnCampaign =
 abbrev pub of_redis : Plan → Plan
 of_redis plan = record plan { profile = Redis }
 
--- when the failover is over a strict Sentinel knows when it began, and one of Redis's profile forgot it at the new address
+-- when the failover is over a strict Sentinel knows when it began, and one of Redis's profile forgot it at the new address, as it did the INFO of 5,500
 pub record ASwitchForgetsTheStart : Type 0 where
+  pub strict_info : (node_of (failing_at 10150) 0 1).info_at ≡ Some 5500
+  pub redis_info : (node_of (core_of (of_redis failover_plan) (inputs_until 10150)) 0 1).info_at ≡ None
   pub strict : (failover_of (core_of failover_plan failover_inputs) 0).last_start ≡ Some 7000
   pub redis : (failover_of (core_of (of_redis failover_plan) failover_inputs) 0).last_start ≡ None
 

@@ -2,3 +2,4 @@ pub mod AtPlaces
 pub mod FewPlaces
 pub mod KeptLemmas
 pub mod NodesLemmas
+pub mod OwnVotes

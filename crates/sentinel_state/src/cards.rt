@@ -31,12 +31,12 @@ impl Master {
         }
     }
 
-    /// The configuration names another address: what was said of the old one is forgotten, by the profile when this
-    /// Sentinel last began too.
+    /// The configuration names another address: what was said of the old one is forgotten, by the profile what the
+    /// nodes told and when this Sentinel last began too.
     fn relocate(&mut self, profile: Profile, now: u64)
         ensures { self.new ≡ at_new_address profile (clock now) self.old }
     {
-        move_all(&mut self.nodes, now);
+        move_all(&mut self.nodes, profile, now);
         self.reports.clear();
         self.forget_start(profile);
     }

@@ -184,15 +184,6 @@ impl Notices {
         }
     }
 
-    /// The last vote is this one, and was one of the epoch `before`.
-    pub(crate) fn see_vote(&mut self, before: u64, epoch: u64, leader: Option<RunId>) {
-        if let Some(leader) = leader
-            && before < epoch
-        {
-            self.push(Notice::Voted { leader, epoch });
-        }
-    }
-
     /// The Sentinel voted for another one, at this moment: its own campaign for the master may begin later only.
     pub(crate) fn see_start(&mut self, m: u16, now: u64) {
         if let Some(told) = self.masters.get_mut(m as usize) {

@@ -10,7 +10,7 @@ ghost use Rattle.sentinel_state.specs.Sights.{is_other_down, is_replica_down};
 use crate::cores::Core;
 use crate::nodes::Plan;
 use crate::notices::{MasterNotice, MasterThen, Notice, ReplicaNotice};
-use ballot_law::{Hello, MAX_EPOCH, Member, NODES_MAX, SENTINELS_MAX};
+use ballot_law::{Hello, MAX_EPOCH, Member, NODES_MAX, RunId, SENTINELS_MAX};
 use failover_states::Row;
 
 impl Core {
@@ -25,6 +25,13 @@ impl Core {
     /// Takes the oldest notice that nobody took yet. A notice tells what a rule did, which may have to be stored first.
     pub fn take_notice(&self) -> Option<Notice> {
         self.notices.take()
+    }
+
+    /// Notes that the vote of an epoch was given.
+    pub(crate) fn note_vote(&mut self, epoch: u64, leader: RunId)
+        ensures { self.new ≡ self.old }
+    {
+        self.notices.push(Notice::Voted { leader, epoch });
     }
 
     /// Notes that this happened to a master.

@@ -22,15 +22,18 @@ impl Core {
     /// A candidate's request for the vote of an epoch: the vote is given where none was in this epoch or a later one
     /// and the epoch hasn't passed; else the current epoch is raised at most. A vote for another Sentinel puts the own
     /// failover off.
+    #[tactic(auto, using(crate::proofs::OwnVotes::refused))]
     pub fn ask_vote(&mut self, plan: &Plan, m: u16, now: u64, epoch: u64, candidate: RunId)
         ensures { self.new ≡ requested plan.now m (clock now) epoch candidate self.old }
     {
         let mut book = self.book(m);
-        let is_granted = book.vote_for(epoch, candidate);
-        self.keep_book(m, &book);
-        if is_granted {
-            self.mark_for(plan, m, now, candidate);
+        if !book.vote_for(epoch, candidate) {
+            self.set_current(book.current());
+            return;
         }
+        self.keep_book(m, &book);
+        self.note_vote(epoch, candidate);
+        self.mark_for(plan, m, now, candidate);
     }
 
     /// The vote that a turn of the failover gives in the campaign's epoch, where it gives one.
@@ -39,8 +42,11 @@ impl Core {
     {
         if let Some(candidate) = vote {
             let mut book = self.book(m);
-            book.ask(epoch, candidate);
+            let is_granted = book.vote_for(epoch, candidate);
             self.keep_book(m, &book);
+            if is_granted {
+                self.note_vote(epoch, candidate);
+            }
             self.mark_for(plan, m, now, candidate);
         }
     }
@@ -81,10 +87,8 @@ impl Core {
     fn keep_book(&mut self, m: u16, book: &VoteBook)
         ensures { self.new ≡ with_book self.old m book.now }
     {
-        let before = self.voted(m);
         self.set_vote(m, book.voted(), book.leader());
         self.set_current(book.current());
-        self.notices.see_vote(before, book.voted(), book.leader());
     }
 
     /// The candidate of the last vote for a master.

@@ -36,8 +36,9 @@ const ACKS_MS: u64 = 2_500;
 /// read, `is_ending` whether the system told of its end, `is_refused` whether the node refused who asks when it was
 /// heard last, `look_at` when it is to be asked what came of an order, `fault` the fault of what came that closed it
 /// last, and `shut_until` until when it stays closed, since too much came on it, `is_lost` whether it was told to be
-/// lost since it was open last, `rows` what it asks another Sentinel for its rows, `acks_until` until when its node is
-/// asked to acknowledge its master's stream.
+/// lost since it was open last, `is_barred` whether it was given up for want of a password, which wasn't told yet,
+/// `rows` what it asks another Sentinel for its rows, `acks_until` until when its node is asked to acknowledge its
+/// master's stream.
 #[derive(Drop)]
 pub(crate) struct PeerConnection<J: Which> {
     link: SaidLink<J>,
@@ -50,6 +51,7 @@ pub(crate) struct PeerConnection<J: Which> {
     flow: RateLimit,
     shut_until: u64,
     is_lost: bool,
+    is_barred: bool,
     rows: RowLook,
     acks_until: u64,
     alloc: Global,
@@ -124,6 +126,7 @@ impl<J: Which> PeerConnection<J> {
             flow: RateLimit::new(),
             shut_until: 0,
             is_lost: false,
+            is_barred: false,
             rows: RowLook::new(),
             acks_until: 0,
             alloc,
@@ -151,14 +154,17 @@ impl<J: Which> PeerConnection<J> {
     }
 
     /// Whether it is lost, which wasn't told since it was open last: it was refused, reset or given up, and isn't
-    /// opened again at once. One that hears hellos tells nothing.
+    /// opened again at once. One that was given up for want of a password is lost each time, however soon it is opened
+    /// again. One that hears hellos tells nothing.
     pub(crate) fn take_loss(&mut self, now: u64) -> bool {
         let schedule = self.link.schedule();
-        if schedule.is_open() {
+        if schedule.is_open() || self.is_barred {
             self.is_lost = false;
         }
         let is_shut = schedule.stage == Stage::Closed && !self.is_due(now);
-        if !is_shut || self.is_lost || self.link.target().listens {
+        let is_gone = is_shut || self.is_barred;
+        self.is_barred = false;
+        if !is_gone || self.is_lost || self.link.target().listens {
             return false;
         }
         self.is_lost = true;
@@ -392,6 +398,7 @@ impl<J: Which> PeerConnection<J> {
                 }
                 self.note_piece(rt, &room[..count]);
                 if wants_login(&room[..count]) {
+                    self.is_barred = true;
                     return Err(ErrorKind::PermissionDenied);
                 }
                 Ok(count)

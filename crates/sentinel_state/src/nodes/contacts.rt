@@ -3,6 +3,7 @@
 ghost use Rattle.std.specs.Prelude.{◌≡◌};
 ghost use Rattle.ballot_law.specs.Clocks.{clock};
 ghost use Rattle.ballot_law.specs.PingReplies.{is_valid};
+ghost use Rattle.sentinel_rules.specs.News.{lost_after};
 ghost use Rattle.sentinel_rules.specs.Contacts.{contact_asked, contact_replied, new_contact, role_since_after, said_role, same_role, since_after};
 
 use ballot_law::{DataRole, Info, PingReply, clock_of};
@@ -35,6 +36,16 @@ pub(crate) fn hear_reply(contact: &mut Contact, now: u64, reply: PingReply)
     match reply {
         PingReply::Pong | PingReply::Loading | PingReply::MasterDown => contact.waiting = None,
         PingReply::Other => {}
+    }
+}
+
+/// Whether a connection counts as lost after a reply to a PING: an error doesn't show that the node serves who asks.
+pub(crate) fn lost_after(reply: PingReply, lost: bool) -> bool
+    ensures { result ≡ lost_after reply lost }
+{
+    match reply {
+        PingReply::Pong | PingReply::Loading | PingReply::MasterDown => false,
+        PingReply::Other => lost,
     }
 }
 

@@ -4,14 +4,14 @@ ghost use Rattle.std.specs.Prelude.{◌≡◌, None, if◌then◌else◌, map, u
 ghost use Rattle.ballot_law.specs.Clocks.{clock};
 ghost use Rattle.ballot_law.specs.Watches.{earlier_of, down_since_of};
 ghost use Rattle.sentinel_rules.specs.declared.assumed.TheConstants.{ASSUMED_INFO};
-ghost use Rattle.sentinel_rules.specs.News.{hello_soon, moved, node_announced, node_lost, node_pinged, loading_after, is_another, rebooted_after, with_info};
+ghost use Rattle.sentinel_rules.specs.News.{forgotten, hello_soon, moved, relocated, node_announced, node_lost, node_pinged, loading_after, is_another, rebooted_after, with_info};
 ghost use Rattle.sentinel_rules.specs.States.{new_node, loading_since};
 
-use crate::nodes::contacts::{hear_reply, new_contact, role_since};
+use crate::nodes::contacts::{hear_reply, lost_after, new_contact, role_since};
 use ballot_law::{Info, PingReply, RunId, clock_of};
 use down_detector::Watch;
 use replica_choice::Candidate;
-use sentinel_rules::{ASSUMED_INFO, Contact};
+use sentinel_rules::{ASSUMED_INFO, Contact, Profile};
 use std::marker::Model;
 
 /// What is kept of a data node. Moments are readings of the Sentinel's clock in milliseconds, at most 2^62.
@@ -181,7 +181,7 @@ impl Node {
         ensures { self.new ≡ node_pinged (clock now) reply self.old }
     {
         self.watch.heard(now, reply);
-        self.lost = false;
+        self.lost = lost_after(reply, self.lost);
         self.rebooted = loading_after(reply, self.rebooted);
         hear_reply(&mut self.contact, now, reply);
         match reply {
@@ -226,7 +226,7 @@ impl Node {
     }
 
     /// Its master is at a new address: it has nothing to be wrong about yet.
-    pub fn moved(&mut self, now: u64)
+    fn moved(&mut self, now: u64)
         ensures { self.new ≡ moved (clock now) self.old }
     {
         self.watch.card_changed(now);
@@ -234,6 +234,28 @@ impl Node {
         self.wrong_role = None;
         self.wrong_address = None;
         self.rebooted = None;
+    }
+
+    /// What it told by INFO is forgotten, and INFO is due at once. For those who ask, its times begin now.
+    fn forget(&mut self, now: u64)
+        ensures { self.new ≡ forgotten (clock now) self.old }
+    {
+        self.info = None;
+        self.info_at = None;
+        self.info_sent = None;
+        self.contact = new_contact(now);
+        self.role_since = clock_of(now);
+    }
+
+    /// Its master is at a new address: by the profile what it told is forgotten too.
+    pub fn relocate(&mut self, profile: Profile, now: u64)
+        ensures { self.new ≡ relocated profile (clock now) self.old }
+    {
+        self.moved(now);
+        match profile {
+            Profile::Strict => {}
+            Profile::Redis => self.forget(now),
+        }
     }
 
     /// Since when it has been subjectively down, where it is to be the master or not, and may load its data for so long
@@ -290,10 +312,10 @@ pub fn greet_soon(nodes: &mut [Node])
 }
 
 /// The master of these nodes is at a new address.
-pub fn move_all(nodes: &mut [Node], now: u64)
-    ensures { nodes.new ≡ map (moved (clock now)) nodes.old }
+pub fn move_all(nodes: &mut [Node], profile: Profile, now: u64)
+    ensures { nodes.new ≡ map (relocated profile (clock now)) nodes.old }
 {
     for node in nodes.iter_mut() {
-        node.moved(now);
+        node.relocate(profile, now);
     }
 }

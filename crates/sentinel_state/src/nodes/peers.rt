@@ -5,7 +5,7 @@ ghost use Rattle.ballot_law.specs.Clocks.{clock};
 ghost use Rattle.sentinel_rules.specs.News.{peer_greeted, peer_lost, peer_pinged};
 ghost use Rattle.sentinel_rules.specs.States.{new_peer};
 
-use crate::nodes::contacts::{hear_reply, new_contact};
+use crate::nodes::contacts::{hear_reply, lost_after, new_contact};
 use ballot_law::{PingReply, clock_of};
 use down_detector::Watch;
 use sentinel_rules::Contact;
@@ -51,7 +51,7 @@ impl Peer {
         ensures { self.new ≡ peer_pinged (clock now) reply self.old }
     {
         self.watch.heard(now, reply);
-        self.lost = false;
+        self.lost = lost_after(reply, self.lost);
         hear_reply(&mut self.contact, now, reply);
     }
 
