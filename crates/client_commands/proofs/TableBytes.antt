@@ -1,13 +1,14 @@
 -- The bytes of what COMMAND and its subcommands answer.
-use Rattle.std.proofs.Common.{◌≡◌, ◌∙◌, ◌+◌, ◌*◌, ◌≤◌, ◌||◌, ℕ, zero, suc, ℤ, pos, Bool, List, [], ◌∷◌, ◌++◌, length, map, decimal, refl, sym, ap, arith, append_assoc, append-nil, codes}
+use Rattle.std.proofs.Common.{◌≡◌, ◌≢◌, ◌∙◌, ◌+◌, ◌*◌, ◌≤◌, ◌||◌, ℕ, zero, suc, ℤ, pos, Bool, List, [], ◌∷◌, ◌++◌, length, map, decimal, refl, sym, ap, arith, append_assoc, append-nil, codes}
 use Rattle.std.specs.List.{list_any}
 use Rattle.resp2.specs.Framing.Frame.{Frame, FrameList, simple, fault, int, bulk, null_bulk, items, null_items, no_frames, frame, frames_of, count, line_end, spelling, spellings}
 use Rattle.client_commands.specs.declared.rows.KnownCommand.{KnownCommand}
 use Rattle.client_commands.specs.declared.classes.Class.{Class}
-use Rattle.client_commands.specs.Pieces.{Part, header, text, mark, other, parts_of, all_parts_of, bytes_of, all_bytes_of}
-use Rattle.client_commands.specs.Rows.{name, arity, class_of, flags, categories, tips, subs_of}
+use Rattle.client_commands.specs.Pieces.{Part, text, mark, other, parts_of, all_parts_of, bytes_of, all_bytes_of}
+use Rattle.client_commands.specs.Refusals.{syntax_error}
+use Rattle.client_commands.specs.Rows.{name, arity, class_of, flags, categories, tips}
 use Rattle.client_commands.specs.Descriptions.{fields, pairs_of}
-use Rattle.client_commands.specs.Tables.{marks, texts, row_with, sub_rows, all_rows, rows_named, command_info, description, sub_descriptions, family_description, described_with, described, found_by, command_docs, names_of, is_category, is_mark_of}
+use Rattle.client_commands.specs.Tables.{marks, texts, row_with, sub_rows, all_rows, rows_named, command_info, description, sub_descriptions, family_description, described_with, described, found_by, command_docs, names_of, is_category, is_mark_of, command_list}
 
 -- ---- lists of words
 
@@ -202,7 +203,7 @@ pub docs_are : (commands : List KnownCommand)
 docs_are commands =
     headed (length commands * 2) _ (pairs_of (described commands)) (ap (λ (n : ℕ). n * 2) (length_described commands) ∙ count_pairs (described commands)) refl
 
--- ---- where there is one at least
+-- ---- by how many there are
 
 pub family_described : (command : KnownCommand) (subs : List KnownCommand) → 1 ≤ length subs → described_with command subs ≡ family_description command subs
 family_described command [] h = absurd (omega (arith, h))
@@ -215,3 +216,10 @@ info_named (word ∷ words) h = refl
 pub docs_named : (words : List (List ℕ)) → 1 ≤ length words → command_docs words ≡ items (pairs_of (described (found_by words)))
 docs_named [] h = absurd (omega (arith, h))
 docs_named (word ∷ words) h = refl
+
+pub not_filtered : (words : List (List ℕ)) → length words ≢ 0 → length words ≢ 3 → command_list words ≡ syntax_error
+not_filtered [] h k = absurd (h refl)
+not_filtered (option ∷ []) h k = refl
+not_filtered (option ∷ filter ∷ []) h k = refl
+not_filtered (option ∷ filter ∷ word ∷ []) h k = absurd (k refl)
+not_filtered (option ∷ filter ∷ word ∷ next ∷ words) h k = refl

@@ -555,6 +555,7 @@ fn filtered(
 }
 
 /// The answer to COMMAND LIST with these words.
+#[tactic(auto, using(crate::proofs::TableBytes::not_filtered))]
 pub(crate) fn command_list(alloc: Global, words: &[Text], out: &mut OutText) -> Result<(), NoMemory>
     ensures { OnOk result (out.new ≡ spelling (command_list words.now)) }
 {
