@@ -2,11 +2,13 @@
 
 mod clients;
 mod confs;
-mod groups;
+mod node_ports;
 mod note_queues;
 mod orders;
 mod outlets;
+mod played_replica;
 mod ports;
 mod stores_held;
 mod talks;
 mod told_files;
+mod watches;

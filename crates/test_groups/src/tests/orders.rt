@@ -1,13 +1,10 @@
 //! A group that takes orders from an input.
 
-ghost use Rattle.std.specs.Prelude.{◌≡◌, All, IfSome};
-
-use crate::tests::confs::{free_port, text_of_one};
+use crate::tests::confs::{free_port, one_alone};
 use client_port::ReadsTimes;
 use log::kv::Source;
 use log::span::Spans;
 use log::{Level, LevelFilter, Log, Logged, Metadata, Record};
-use sentinel_conf::{Conf, MemoryStore, read};
 use sentinel_runner::{Group, OrderedFault};
 use std::alloc::Global;
 use std::fmt::Display;
@@ -116,30 +113,15 @@ impl<R: Clock> Read for Input<'_, R> {
     }
 }
 
-/// The conf of one Sentinel, and its store.
-fn one(alloc: Global, text: &str) -> Option<(Vec<Conf>, Vec<MemoryStore>)>
-    ensures { IfSome result (λ r. All (λ store. store.failed ≡ 0) r.1.items) }
-{
-    let conf = read(alloc, text.as_bytes()).ok()?;
-    let confs = vec![in alloc; conf].ok()?;
-    let store = MemoryStore::holding(alloc, text.as_bytes()).ok()?;
-    let mut stores = Vec::new(alloc);
-    stores.push(store).ok()?;
-    Some((confs, stores))
-}
-
-/// Runs a group by the orders of the input: how it ended.
+/// Opens a Sentinel, and runs it by the orders of the input: how it ended, none where it can't be opened.
 fn run_by_input<R: Threads + Wait + Net + Clock + ReadsTimes + Log + Sync>(
     rt: &R,
     alloc: Global,
     counts: &Counts,
     fails: bool,
-) -> Result<Result<(), OrderedFault>, Fail> {
-    let text = text_of_one(alloc, free_port(rt)?)?;
-    let (confs, stores) = one(alloc, text.as_str()).ok_or("no conf")?;
-    let Ok(group) = Group::open(rt, alloc, confs, stores) else {
-        return Err(Fail::from("no group"));
-    };
+) -> Option<Result<(), OrderedFault>> {
+    let (confs, stores) = one_alone(alloc, free_port(rt).ok()?)?;
+    let group = Group::open(rt, alloc, confs, stores).ok()?;
     let mut input = Input {
         rt,
         counts,
@@ -147,15 +129,15 @@ fn run_by_input<R: Threads + Wait + Net + Clock + ReadsTimes + Log + Sync>(
         fails,
     };
     let ending = AtomicU64::new(0);
-    Ok(group.run_by_orders(rt, &mut input, &ending))
+    Some(group.run_by_orders(rt, &mut input, &ending))
 }
 
 #[test]
 fn a_group_obeys_lines_to_the_end_of_its_input(rt: HostRuntime) -> Result<(), Fail> {
     let counts = Counts::none();
     let noting = Logged::new(rt, LevelFilter::Info, Counted(&counts));
-    let ended = run_by_input(&noting, rt.alloc(), &counts, false)?;
-    assert_eq!(rt; ended, Ok(()));
+    let ended = run_by_input(&noting, rt.alloc(), &counts, false);
+    assert_eq!(rt; ended, Some(Ok(())));
     assert!(rt;
         counts.infos.load(Ordering::SeqCst) > 0,
         "the order to stop the master"
@@ -172,7 +154,7 @@ fn a_group_obeys_lines_to_the_end_of_its_input(rt: HostRuntime) -> Result<(), Fa
 fn an_input_that_fails_is_told(rt: HostRuntime) -> Result<(), Fail> {
     let counts = Counts::none();
     let noting = Logged::new(rt, LevelFilter::Info, Counted(&counts));
-    let ended = run_by_input(&noting, rt.alloc(), &counts, true)?;
-    assert_eq!(rt; ended, Err(OrderedFault::Read));
+    let ended = run_by_input(&noting, rt.alloc(), &counts, true);
+    assert_eq!(rt; ended, Some(Err(OrderedFault::Read)));
     Ok(())
 }
