@@ -2,7 +2,7 @@
 use Rattle.std.specs.Prelude.{◌≡◌, ◌⊎◌, ◌++◌, ◌∷◌, [], ℕ, Bool, List, ◌-◌, ◌&&◌, nat_lt, bytes_eq, slice_set}
 use Rattle.std.specs.List.{list_any}
 use Rattle.links.specs.declared.hello_dedup.HeardHello.{HeardHello}
-use Rattle.links.specs.declared.hello_dedup.TheConstants.{NEWS_MS}
+use Rattle.links.specs.declared.times.TheConstants.{NEWS_MS}
 
 -- one with this text was heard less than NEWS_MS ago
 abbrev pub is_recent : (now : ℕ) → (text : List ℕ) → List HeardHello → Bool

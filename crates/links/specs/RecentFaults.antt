@@ -2,7 +2,7 @@
 use Rattle.std.specs.Prelude.{◌≡◌, ◌⊎◌, ◌++◌, ◌∷◌, [], ℕ, Bool, List, ◌-◌, ◌&&◌, nat_lt, ◌==◌, slice_set}
 use Rattle.std.specs.List.{list_any}
 use Rattle.links.specs.declared.recent_faults.NotedFault.{NotedFault}
-use Rattle.links.specs.declared.recent_faults.TheConstants.{FAULT_NOTE_MS}
+use Rattle.links.specs.declared.times.TheConstants.{FAULT_NOTE_MS}
 
 -- it was noted less than FAULT_NOTE_MS ago
 abbrev pub is_recent : (now : ℕ) → NotedFault → Bool

@@ -3,7 +3,7 @@ use Rattle.std.specs.Prelude.{ℕ, ◌≤◌, ◌-◌, ◌*◌, min, max, List, 
 use Rattle.links.specs.declared.sessions.questions.Question.{Question}
 use Rattle.links.specs.declared.schedule.Schedule.{Schedule}
 use Rattle.links.specs.declared.schedule.Stage.TheVariants.{Closed, Opening, Open}
-use Rattle.links.specs.declared.schedule.TheConstants.{PAUSE_MIN_MS, PAUSE_MAX_MS}
+use Rattle.links.specs.declared.times.TheConstants.{PAUSE_MIN_MS, PAUSE_MAX_MS}
 
 -- there is no such time, or it is so long ago
 abbrev pub IsPast : (period : ℕ) → Option ℕ → (now : ℕ) → Type 0

@@ -4,12 +4,9 @@ ghost use Rattle.std.specs.Prelude.{◌≡◌, ◌≤◌, not, false, length};
 ghost use Rattle.links.specs.declared.hello_dedup.TheConstants.{HELLOS_MAX};
 ghost use Rattle.links.specs.HelloDedup.{Keeps, is_recent};
 
+use crate::times::NEWS_MS;
 use ballot_law::{NoMemory, Text};
 use std::alloc::Global;
-
-/// For how long a hello that was heard isn't news, in milliseconds: it comes again from each data node of its master,
-/// and its Sentinel publishes the next one after 2,000.
-pub const NEWS_MS: u64 = 1_000;
 
 /// How many hellos are kept: some more than sixty-four Sentinels publish of a master in that time.
 pub const HELLOS_MAX: usize = 128;

@@ -26,11 +26,12 @@ mod silence_timer;
 mod speaking;
 mod target;
 mod tick_schedule;
+mod times;
 
 pub use hello_dedup::HelloDedup;
 pub use host_names::without_names;
 pub use node_link::NodeLink;
-pub use rate_limit::{FLOW_MS, RateLimit};
+pub use rate_limit::RateLimit;
 pub use recent_faults::RecentFaults;
 pub use refusals::{is_refusal, wants_login};
 pub use schedule::{Schedule, Stage, Stale, ping_each};
@@ -38,7 +39,11 @@ pub use sessions::{
     ASKED_MAX, BULK_MAX, HELD_MAX, LinkFault, LinkSession, Question, TOLD_MAX, Vote,
     law_long_values, law_pieces_join, question_of,
 };
-pub use silence_timer::{NO_HELLOS_MS, SilenceTimer};
+pub use silence_timer::SilenceTimer;
 pub use speaking::Login;
 pub use target::{Target, connection_count, place_of, target_at};
-pub use tick_schedule::{HURRY_MS, TickSchedule, is_gap, pause_of, turn_of};
+pub use tick_schedule::{TickSchedule, is_gap, pause_of, turn_of};
+pub use times::{
+    ACKS_MS, CATCH_UP_MS, DIFFERENT_MS, FLOW_MS, HELLO_AGAIN_MS, HURRY_MS, KEEP_MS, LOOK_MS,
+    NO_HELLOS_MS, REST_MS, ROW_EACH_MS, STRANGERS_MS, WAIT_MAX_MS,
+};

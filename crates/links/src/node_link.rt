@@ -11,10 +11,11 @@ ghost use Rattle.links.specs.declared.schedule.Stale.TheVariants.{Unreached, Sil
 ghost use Rattle.links.specs.NodeLinks.{fresh, closed_at, opening_at, asked_at, row_asked_at, ack_asked_at, AsksByItself, IsOwn, IsHeardOn, IsBounded};
 ghost use Rattle.links.specs.Schedules.{IsPast, closed};
 
-use crate::schedule::{CONNECT_MS, NO_HELLO_MS, SILENT_MS, Schedule, Stale};
+use crate::schedule::{Schedule, Stale};
 use crate::sessions::{LinkFault, LinkSession};
 use crate::speaking::{Login, put_ack_question, put_first_words, put_message, put_row_question};
 use crate::target::Target;
+use crate::times::{CONNECT_MS, NO_HELLO_MS, SILENT_MS};
 use ballot_law::{Body, Event, Message, NodeName};
 use std::alloc::Global;
 use std::marker::Model;

@@ -2,8 +2,7 @@
 
 ghost use Rattle.std.specs.Prelude.{◌≡◌, ◌≤◌, ◌<◌, ◌↔◌, ◌+◌, ◌-◌, min, IsTrue, ◌^◌};
 
-/// How long the time is in which what was heard is counted, in milliseconds.
-pub const FLOW_MS: u64 = 1_000;
+use crate::times::FLOW_MS;
 
 /// How many hellos and answers may come on a connection in that time. Sixty-four Sentinels publish some forty hellos in
 /// it; a node that passes on more is shut off for as long.

@@ -3,11 +3,9 @@
 ghost use Rattle.std.specs.Prelude.{◌≡◌, not, false, true, length};
 ghost use Rattle.links.specs.RecentFaults.{is_noted, Keeps};
 
+use crate::times::FAULT_NOTE_MS;
 use ballot_law::NoMemory;
 use std::alloc::Global;
-
-/// For how long a further fault of a node isn't noted, in milliseconds.
-pub const FAULT_NOTE_MS: u64 = 60_000;
 
 /// The place of the connection that takes the messages of a node of which a fault was noted, and when, by a reading of
 /// the clock in milliseconds.

@@ -5,36 +5,10 @@ ghost use Rattle.links.specs.declared.schedule.Stage.TheVariants.{Closed, Openin
 ghost use Rattle.links.specs.declared.schedule.Stale.TheVariants.{Unreached, Silent, NoHello};
 ghost use Rattle.links.specs.Schedules.{IsPast, begun, closed};
 
-/// How long a connection may take to be opened, in milliseconds.
-pub const CONNECT_MS: u64 = 1_000;
-
-/// How long nothing may come while an answer is awaited, in milliseconds.
-pub const SILENT_MS: u64 = 2_000;
-
-/// How long nothing may come on a connection that listens to hellos, in milliseconds.
-pub const NO_HELLO_MS: u64 = 6_000;
-
-/// The shortest and the longest pause before a connection is opened again, in milliseconds.
-pub const PAUSE_MIN_MS: u64 = 100;
-
-pub const PAUSE_MAX_MS: u64 = 500;
-
-/// For how long a connection has to be open to be opened again at once where its node ends it, in milliseconds: as at
-/// CLIENT KILL, after which hellos would be missed.
-pub const LASTING_MS: u64 = 2_000;
-
-/// The shortest and the longest time between two PINGs that a connection sends, in milliseconds.
-pub const PING_MIN_MS: u64 = 250;
-
-pub const PING_MAX_MS: u64 = 1_000;
-
-/// How many PINGs a connection sends in the time after which its node would be down, within these limits.
-pub const PINGS: u64 = 8;
-
-/// How long it is between two INFOs that the connection asks for by itself, in milliseconds. A replica whose INFO is
-/// older than 5 s isn't promoted; and a node whose role is wrong has to say so twice, 8 s apart, before it is told
-/// otherwise, which is after two of these times.
-pub const INFO_MS: u64 = 4_150;
+use crate::times::{
+    ASK_INFO_MS, CONNECT_MS, LASTING_MS, NO_HELLO_MS, PAUSE_MAX_MS, PAUSE_MIN_MS, PING_MAX_MS,
+    PING_MIN_MS, PINGS, SILENT_MS,
+};
 
 /// Where a connection stands.
 #[derive(Clone, Copy, PartialEq, Eq)]
@@ -217,19 +191,19 @@ impl Schedule {
         self.pinged = Some(now);
     }
 
-    /// Whether it is to ask for INFO by itself now: at once, and each `INFO_MS` after it was opened.
+    /// Whether it is to ask for INFO by itself now: at once, and each `ASK_INFO_MS` after it was opened.
     pub fn is_info_due(&self, now: u64) -> bool
-        ensures { IsTrue result ↔ ((self.now.stage ≡ Open) × (self.now.infos ≤ (now - self.now.since) / INFO_MS)) }
+        ensures { IsTrue result ↔ ((self.now.stage ≡ Open) × (self.now.infos ≤ (now - self.now.since) / ASK_INFO_MS)) }
     {
-        let passed = now.saturating_sub(self.since) / INFO_MS;
+        let passed = now.saturating_sub(self.since) / ASK_INFO_MS;
         self.stage == Stage::Open && self.infos <= passed
     }
 
-    /// It asked for INFO: it is to ask again once the next `INFO_MS` have passed.
+    /// It asked for INFO: it is to ask again once the next `ASK_INFO_MS` have passed.
     pub fn ask_info(&mut self, now: u64)
-        ensures { self.new ≡ record self.old { infos = (now - self.old.since) / INFO_MS + 1 } }
+        ensures { self.new ≡ record self.old { infos = (now - self.old.since) / ASK_INFO_MS + 1 } }
     {
-        let passed = now.saturating_sub(self.since) / INFO_MS;
+        let passed = now.saturating_sub(self.since) / ASK_INFO_MS;
         self.infos = passed + 1;
     }
 }

@@ -2,9 +2,6 @@
 
 ghost use Rattle.std.specs.Prelude.{◌≡◌, ◌≤◌, ◌↔◌, ◌⊎◌, ◌-◌, true, false, IsTrue};
 
-/// For how long no hello of another Sentinel may come before that is noted, in milliseconds.
-pub const NO_HELLOS_MS: u64 = 10_000;
-
 /// Since when nothing came, by readings of one clock in milliseconds, and whether that was noted.
 #[derive(Clone, Copy)]
 pub struct SilenceTimer {

@@ -2,30 +2,9 @@
 
 ghost use Rattle.std.specs.Prelude.{◌≡◌, ◌≤◌, ◌<◌, ◌↔◌, ◌+◌, ◌-◌, ◌*◌, ◌/◌, ◌%◌, ◌^◌, max, min, IsTrue};
 
-/// How long may lie between two turns before this Sentinel takes itself to have stood still, in milliseconds.
-pub const GAP_MS: u64 = 300;
-
-/// The shortest and the longest time between two ticks, in milliseconds.
-pub const TICK_MIN_MS: u64 = 50;
-
-pub const TICK_MAX_MS: u64 = 100;
-
-/// The longest time between two ticks while a switch is under way that a client asked for, in milliseconds.
-pub const HURRY_MS: u64 = 20;
-
-/// How far apart the turns of two Sentinels are that may begin a campaign, in milliseconds, where few of them share the
-/// longest pause: a vote is stored, and asked of the others, in much less.
-pub const SLOT_MAX_MS: u64 = 200;
-
-/// For how long the ticks are held back at most where a campaign is near, in milliseconds.
-pub const HOLD_MAX_MS: u64 = 1_000;
-
-/// How far apart two ticks may come to be by being held back, in milliseconds: at 2,000 a Sentinel would take its clock
-/// to have leapt.
-pub const APART_MAX_MS: u64 = 1_200;
-
-/// How long after the last ticks those that are due are late, in milliseconds.
-pub const LATE_MS: u64 = 800;
+use crate::times::{
+    APART_MAX_MS, GAP_MS, HOLD_MAX_MS, HURRY_MS, LATE_MS, SLOT_MAX_MS, TICK_MAX_MS, TICK_MIN_MS,
+};
 
 /// The turns of a Sentinel, by readings of one clock in milliseconds: `turned` is when the last one ended, `ticked`
 /// when the last ticks began, and `tick_due` when the next ones are due.
