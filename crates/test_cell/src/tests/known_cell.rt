@@ -4,12 +4,10 @@
 ghost use Rattle.std.specs.Prelude.{◌≡◌, []};
 ghost use Rattle.ballot_law.specs.Limits.{IsWithinEvent};
 
-use super::calls::Call;
-use super::files::boxed;
-use super::wire::add_outputs;
+use super::calls::{request, vote_in};
+use super::files::Shared;
 use ballot_law::{Card, Input, Output};
 use port_sessions::Session;
-use resp2::OutText;
 use sentinel_cell::{ActFault, CellFault, Reply, Seat, SharedSentinel};
 use sentinel_conf::ConfStore;
 use sentinel_outbox::Outbox;
@@ -73,13 +71,10 @@ impl<J: Which> KnownSeat<J> {
 
 impl<J: Which, S: ConfStore> KnownCell<J, S> {
     /// A cell with its first seat.
-    pub(crate) fn with_seat(
-        alloc: Global,
-        cell: Box<SharedSentinel<S>>,
-        seat: Seat,
-    ) -> (KnownCell<J, S>, KnownSeat<J>)
-        requires { (cell.value.id ≡ J.cell) × (seat.cell ≡ J.cell) }
+    pub(crate) fn of(alloc: Global, shared: Shared<S>) -> (KnownCell<J, S>, KnownSeat<J>)
+        requires { (shared.0.value.id ≡ J.cell) × (shared.1.cell ≡ J.cell) }
     {
+        let (cell, seat) = shared;
         let known = KnownCell {
             cell,
             of: PhantomData,
@@ -100,46 +95,35 @@ impl<J: Which, S: ConfStore> KnownCell<J, S> {
         self.cell.act(rt, &mut seat.seat, input, &mut seat.outbox)
     }
 
-    /// One call of a seat at clock 0, and what it shows, in bytes.
-    pub(crate) fn say<R: Wait>(
+    /// Asks for the vote of an epoch by a seat: the epoch of the vote that it is answered, if that is the one output.
+    pub(crate) fn vote<R: Wait>(
         &self,
         rt: &R,
-        alloc: Global,
         seat: &mut KnownSeat<J>,
-        call: Call,
-    ) -> Result<OutText, ActFault> {
-        let Ok(input) = call.input(alloc, 0) else {
-            return Err(ActFault::NoMemory);
-        };
-        self.act(rt, seat, &input)?;
-        let mut text = OutText::new(alloc);
-        match add_outputs(alloc, seat.outputs(), &mut text) {
-            Ok(()) => Ok(text),
-            Err(_) => Err(ActFault::NoMemory),
-        }
+        epoch: u32,
+    ) -> Result<Option<u64>, ActFault> {
+        self.act(rt, seat, &request(epoch))?;
+        Ok(vote_in(seat.outputs()))
     }
 
-    /// The stored configuration of a master.
-    pub(crate) fn address(&self, seat: &mut KnownSeat<J>, m: u16) -> Option<Card> {
-        let (epoch, addr) = self.cell.address(&mut seat.seat, m)?;
+    /// The stored configuration of the master.
+    pub(crate) fn address(&self, seat: &mut KnownSeat<J>) -> Option<Card> {
+        let (epoch, addr) = self.cell.address(&mut seat.seat, 0)?;
         Some(Card { epoch, addr })
     }
 
-    /// What a new session of the seat has to send after these bytes, at clock 0; None where it ended.
-    pub(crate) fn heard<R: Wait>(
+    /// Whether a new session of the seat answers these bytes by those, at clock 0.
+    pub(crate) fn answers<R: Wait>(
         &self,
         rt: &R,
         alloc: Global,
         seat: &mut KnownSeat<J>,
         bytes: &[u8],
-    ) -> Option<OutText> {
+        answer: &[u8],
+    ) -> bool {
         let mut session = Session::new(alloc);
-        session
-            .received(rt, &self.cell, &mut seat.seat, 0, bytes)
-            .ok()?;
-        let mut text = OutText::new(alloc);
-        text.add(session.unsent()).ok()?;
-        Some(text)
+        let heard = session.received(rt, &self.cell, &mut seat.seat, 0, bytes);
+        heard.is_ok() && session.unsent() == answer
     }
 
     /// Cuts a seat in two.
@@ -170,10 +154,10 @@ impl<J: Which, S: ConfStore + Drop> KnownCell<J, S> {
         match Box::into_inner(self.cell).close(seat.seat) {
             Ok(keeper) => Ok(keeper.store),
             Err((cell, seat, fault)) => {
-                let Some((cell, seat)) = boxed(alloc, cell, seat) else {
+                let Ok(cell) = Box::new(alloc, cell) else {
                     return Err(None);
                 };
-                let (known, seat) = KnownCell::with_seat(alloc, cell, seat);
+                let (known, seat) = KnownCell::of(alloc, (cell, seat));
                 Err(Some((known, seat, fault)))
             }
         }

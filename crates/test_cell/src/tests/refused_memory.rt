@@ -4,37 +4,31 @@
 
 ghost use Rattle.std.specs.Prelude.{◌≡◌, IfOk, IfSome};
 
-use super::calls::{A, Call, here};
-use super::files::{Opened, RefusingFile, boxed, opened, shared};
+use super::calls::{card, request, vote_in};
+use super::files::{Shared, file, ready, shared};
 use super::known_cell::{KnownCell, Which};
-use ballot_law::Card;
-use sentinel_cell::{ActFault, CellFault, Keeper, Reply, Seat, SharedSentinel};
+use sentinel_cell::{ActFault, CellFault, Keeper, Reply, SharedSentinel};
+use sentinel_conf::MemoryStore;
 use std::alloc::Global;
 use std::marker::Brand;
 use std::sync::Wait;
 
 /// Whether a request for a vote is answered, once more where it lacked memory, and the address is told behind it; None
-/// where the store or the input lacked it.
+/// where the store lacked it.
 fn is_answered_again<J: Which, R: Wait>(
     rt: &R,
     alloc: Global,
-    cell: Box<SharedSentinel<RefusingFile>>,
-    seat: Seat,
+    shared: Shared<MemoryStore>,
 ) -> Option<bool>
-    requires { (cell.value.id ≡ J.cell) × (seat.cell ≡ J.cell) }
+    requires { (shared.0.value.id ≡ J.cell) × (shared.1.cell ≡ J.cell) }
 {
-    let (cell, mut seat) = KnownCell::<J, RefusingFile>::with_seat(alloc, cell, seat);
-    let request = Call::Vote {
-        epoch: 1,
-        candidate: Some(A),
-    };
-    let input = request.input(alloc, 0).ok()?;
-    let reply = match cell.act(rt, &mut seat, &input) {
+    let (cell, mut seat) = KnownCell::<J, MemoryStore>::of(alloc, shared);
+    let reply = match cell.act(rt, &mut seat, &request(1)) {
         Err(ActFault::NoMemory) => {
             if !seat.outputs().is_empty() {
                 return Some(false);
             }
-            cell.act(rt, &mut seat, &input)
+            cell.act(rt, &mut seat, &request(1))
         }
         Err(ActFault::StoreRefused) => return None,
         reply => reply,
@@ -44,18 +38,14 @@ fn is_answered_again<J: Which, R: Wait>(
         count: 1,
         entry: 0,
     };
-    let is_answered = reply == Ok(first_alone) && seat.outputs().len() == 1;
-    let card = Card {
-        epoch: 0,
-        addr: here(6379),
-    };
-    Some(is_answered && cell.address(&mut seat, 0) == Some(card))
+    let is_answered = reply == Ok(first_alone) && vote_in(seat.outputs()) == Some(1);
+    Some(is_answered && cell.address(&mut seat) == Some(card(0, 6379)))
 }
 
 /// The same of a Sentinel that begins anew.
 fn is_answered<R: Wait>(rt: &R, alloc: Global) -> Option<bool> {
-    let (cell, seat) = shared(alloc, 0, false)?;
-    is_answered_again::<Brand, R>(rt, alloc, cell, seat)
+    let shared = shared(alloc, file(alloc)?, 2)?;
+    is_answered_again::<Brand, R>(rt, alloc, shared)
 }
 
 #[test]
@@ -69,11 +59,10 @@ fn refused_memory_shows_nothing_and_the_next_call_is_answered(rt: HostRuntime) {
 
 /// A cell that is made once more of what the refusal hands back. None where what it is made of lacked memory; a fault
 /// where it isn't made again.
-fn made_again(alloc: Global) -> Option<Result<Opened, CellFault>>
+fn made_again(alloc: Global) -> Option<Result<Shared<MemoryStore>, CellFault>>
     ensures { IfSome result (λ made. IfOk made (λ r. r.1.cell ≡ r.0.value.id)) }
 {
-    let (sentinel, file) = opened(alloc, 0, false)?;
-    let (cell, seat) = match SharedSentinel::new(alloc, sentinel, file, 2) {
+    let (cell, seat) = match SharedSentinel::new(alloc, ready(alloc)?, file(alloc)?, 2) {
         Ok(made) => made,
         Err((keeper, _)) => {
             let Keeper { sentinel, store } = keeper;
@@ -83,16 +72,16 @@ fn made_again(alloc: Global) -> Option<Result<Opened, CellFault>>
             }
         }
     };
-    let opened = boxed(alloc, cell, seat)?;
-    Some(Ok(opened))
+    let cell = Box::new(alloc, cell).ok()?;
+    Some(Ok((cell, seat)))
 }
 
 /// Whether a cell that was made so answers as any other.
 fn is_made_again<R: Wait>(rt: &R, alloc: Global) -> Option<bool> {
-    let Ok((cell, seat)) = made_again(alloc)? else {
+    let Ok(shared) = made_again(alloc)? else {
         return Some(false);
     };
-    is_answered_again::<Brand, R>(rt, alloc, cell, seat)
+    is_answered_again::<Brand, R>(rt, alloc, shared)
 }
 
 #[test]

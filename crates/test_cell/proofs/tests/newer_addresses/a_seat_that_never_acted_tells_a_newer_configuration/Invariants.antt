@@ -2,4 +2,4 @@ use Rattle.test_cell.proofs.tests.newer_addresses.a_seat_that_never_acted_tells_
 
 -- which cell it is
 abbrev pub ghosts-cut_and_tell : goal.ghosts-cut_and_tell
-ghosts-cut_and_tell g a = record { cell = a.opened.0.value.id }
+ghosts-cut_and_tell g a = record { cell = a.shared.0.value.id }

@@ -1,13 +1,12 @@
 //! An address that is told while another thread's store is under way.
 
-ghost use Rattle.std.specs.Prelude.{◌≡◌, IfSome};
+ghost use Rattle.std.specs.Prelude.{◌≡◌};
 
-use super::calls::{A, Call, here};
-use super::files::{RefusingFile, Shared, boxed, opened};
+use super::calls::card;
+use super::files::{Shared, file, shared};
 use super::known_cell::{KnownCell, KnownSeat, Which};
-use ballot_law::{Addr, Card};
-use sentinel_cell::{Seat, SharedSentinel};
-use sentinel_conf::{ConfStore, FileText, LoadFault, StoreRefused};
+use ballot_law::Card;
+use sentinel_conf::{ConfStore, FileText, LoadFault, MemoryStore, StoreRefused};
 use std::alloc::Global;
 use std::marker::Brand;
 use std::process::Abort;
@@ -43,13 +42,13 @@ fn wait_for<R: Clock>(rt: &R, flag: &AtomicU64) -> bool {
 /// A file whose write waits until an address was told, and is refused where none is.
 #[derive(Drop)]
 struct HeldFile<'a, R: Clock> {
-    file: RefusingFile,
+    file: MemoryStore,
     rt: &'a R,
     flags: &'a Flags,
 }
 
 impl<'a, R: Clock> ConfStore for HeldFile<'a, R> {
-    ghost failure_count = { λ held. held.file.store.failed };
+    ghost failure_count = { λ held. held.file.failed };
 
     fn load(&mut self) -> Result<FileText, LoadFault> {
         self.file.load()
@@ -58,7 +57,7 @@ impl<'a, R: Clock> ConfStore for HeldFile<'a, R> {
     fn replace(&mut self, text: &[u8]) -> Result<(), StoreRefused> {
         self.flags.held.store(1, Ordering::SeqCst);
         if !wait_for(self.rt, &self.flags.told) {
-            self.file.refuse_next();
+            self.file.refuse_next(false);
         }
         self.file.replace(text)
     }
@@ -73,41 +72,23 @@ impl<'a, R: Clock> ConfStore for HeldFile<'a, R> {
 struct Part<J: Which> {
     seat: KnownSeat<J>,
     asks_the_address: bool,
-    answer: Option<Addr>,
+    answer: Option<Card>,
     voted: bool,
 }
 
 impl<J: Which> Part<J> {
-    /// Asks for a vote, which is stored.
-    fn vote<S: ConfStore, R: Wait>(&mut self, rt: &R, alloc: Global, cell: &KnownCell<J, S>) {
-        let request = Call::Vote {
-            epoch: 1,
-            candidate: Some(A),
-        };
-        self.voted = cell.say(rt, alloc, &mut self.seat, request).is_ok();
-    }
-
-    /// Asks for the address once the store is held.
-    fn ask<S: ConfStore, R: Clock>(&mut self, rt: &R, cell: &KnownCell<J, S>, flags: &Flags) {
-        if wait_for(rt, &flags.held) {
-            if let Some(card) = cell.address(&mut self.seat, 0) {
-                self.answer = Some(card.addr);
-                flags.told.store(1, Ordering::SeqCst);
-            }
-        }
-    }
-
+    /// Asks for the address once the store is held, or for a vote, which is stored.
     fn play<S: ConfStore, R: Wait + Clock>(
         &mut self,
         rt: &R,
-        alloc: Global,
         cell: &KnownCell<J, S>,
         flags: &Flags,
     ) {
-        if self.asks_the_address {
-            self.ask(rt, cell, flags);
-        } else {
-            self.vote(rt, alloc, cell);
+        if !self.asks_the_address {
+            self.voted = cell.vote(rt, &mut self.seat, 1) == Ok(Some(1));
+        } else if wait_for(rt, &flags.held) {
+            self.answer = cell.address(&mut self.seat);
+            flags.told.store(1, Ordering::SeqCst);
         }
     }
 }
@@ -125,12 +106,11 @@ fn new_part<J: Which>(seat: KnownSeat<J>, asks_the_address: bool) -> Part<J> {
 /// Plays both parts, each in a thread of its own.
 fn play_in_threads<'a, J: Which + Send + Sync, R: Threads + Wait + Clock + Sync>(
     rt: &'a R,
-    alloc: Global,
     cell: &KnownCell<J, HeldFile<'a, R>>,
     flags: &'a Flags,
     parts: &mut [Part<J>],
 ) {
-    thread::for_each_mut(rt, parts, 2, &|_, part| part.play(rt, alloc, cell, flags));
+    thread::for_each_mut(rt, parts, 2, &|_, part| part.play(rt, cell, flags));
 }
 
 /// One seat asks for a vote, whose store is held; the other one asks for the address. Gives the store.
@@ -138,43 +118,28 @@ fn ask_while_held<'a, J: Which + Send + Sync, R: Threads + Wait + Clock + Abort 
     rt: &'a R,
     alloc: Global,
     flags: &'a Flags,
-    cell: Box<SharedSentinel<HeldFile<'a, R>>>,
-    seat: Seat,
-) -> RefusingFile
-    requires { (cell.value.id ≡ J.cell) × (seat.cell ≡ J.cell) }
+    shared: Shared<HeldFile<'a, R>>,
+) -> MemoryStore
+    requires { (shared.0.value.id ≡ J.cell) × (shared.1.cell ≡ J.cell) }
 {
-    let (cell, seat) = KnownCell::<J, HeldFile<'a, R>>::with_seat(alloc, cell, seat);
+    let (cell, seat) = KnownCell::<J, HeldFile<'a, R>>::of(alloc, shared);
     let Ok((one, two)) = cell.split(alloc, seat) else {
         panic!(rt; "not split")
     };
     let Ok(mut parts) = vec![in alloc; new_part(one, false), new_part(two, true)] else {
         panic!(rt; "no memory")
     };
-    play_in_threads(rt, alloc, &cell, flags, parts.as_mut_slice());
+    play_in_threads(rt, &cell, flags, parts.as_mut_slice());
     let (Some(two), Some(one)) = (parts.pop(), parts.pop()) else {
         panic!(rt; "a thread is gone")
     };
-    assert!(rt; two.answer == Some(here(6379)));
+    assert!(rt; two.answer == Some(card(0, 6379)));
     assert!(rt; one.voted);
     let whole = cell.join(alloc, one.seat, two.seat);
     let Ok(store) = cell.close(alloc, whole) else {
         panic!(rt; "not closed")
     };
     store.file
-}
-
-/// The Sentinel of `opened`, shared with its file held, with two seats in one.
-fn shared_and_held<'a, R: Clock>(
-    rt: &'a R,
-    alloc: Global,
-    flags: &'a Flags,
-) -> Option<Shared<HeldFile<'a, R>>>
-    ensures { IfSome result (λ r. r.1.cell ≡ r.0.value.id) }
-{
-    let (sentinel, file) = opened(alloc, 0, false)?;
-    let held = HeldFile { file, rt, flags };
-    let (cell, seat) = SharedSentinel::new(alloc, sentinel, held, 2).ok()?;
-    boxed(alloc, cell, seat)
 }
 
 /// How often the store is held.
@@ -186,10 +151,18 @@ fn hold_a_store<R: Threads + Wait + Clock + Abort + Sync>(rt: &R, alloc: Global)
         held: AtomicU64::new(0),
         told: AtomicU64::new(0),
     };
-    let Some((cell, seat)) = shared_and_held(rt, alloc, &flags) else {
+    let Some(file) = file(alloc) else {
+        panic!(rt; "no memory")
+    };
+    let held = HeldFile {
+        file,
+        rt,
+        flags: &flags,
+    };
+    let Some(shared) = shared(alloc, held, 2) else {
         panic!(rt; "no cell")
     };
-    ask_while_held::<Brand, R>(rt, alloc, &flags, cell, seat).failures()
+    ask_while_held::<Brand, R>(rt, alloc, &flags, shared).failures()
 }
 
 #[test]

@@ -1,5 +1,0 @@
-use Rattle.test_cell.proofs.tests.stores_held.hold_a_store.Given as goal
-
--- which cell it is
-abbrev pub ghosts-ask_while_held : goal.ghosts-ask_while_held
-ghosts-ask_while_held g a = record { cell = a.cell.value.id }
