@@ -19,3 +19,4 @@ pub mod HeardAnswers
 pub mod Pieces
 pub mod Openings
 pub mod OwnActions
+pub mod Connected

@@ -42,13 +42,14 @@ use Rattle.sentinel_cell.specs.declared.view.View.{View}
 use Rattle.sentinel_cell.specs.Histories.{World, replay}
 use Rattle.sentinel_cell.proofs.Cards.{same_plan}
 use Rattle.sentinel_rules.specs.Plans.{Plan, me}
-use Rattle.process_laws.specs.Connections.{IsAskable, AreDelivered}
+use Rattle.process_laws.specs.Connections.{IsAskable}
+use Rattle.process_laws.specs.Connected.{EachTurn}
 use Rattle.process_laws.specs.SharedConnections.{ServedBeside}
 use Rattle.process_laws.specs.Openings.{IsConnectedAnew, IsHeardOf, NewConnectionsDeliver, PiecesAreANewConnection}
 use Rattle.process_laws.proofs.OwnCommands.{own_answer}
 use Rattle.process_laws.proofs.Joining.{spelled_some, first_asked, others_asked, by_first}
 use Rattle.process_laws.proofs.Pieces.{questions_spelled, served_as_sent}
-use Rattle.process_laws.proofs.SharedConnections.{later_delivered, delivered}
+use Rattle.process_laws.proofs.SharedConnections.{AreDeliveredSo, only_delivered, any_turn, later_delivered, delivered}
 use Rattle.process_laws.proofs.Turns.{answers, turned, no_null}
 
 -- ---- a question whose answer tells nothing
@@ -162,34 +163,35 @@ same_run_id node id own got is e =
 
 -- ---- what is delivered later
 
-later_all : (start : World) (asker : NodeName) (v u : View) (more : List Entry) (questions : List Body) (events : List Event) → u.front ≡ v.front ++ more
-    → AreDelivered start asker u questions events → AreDelivered start asker v questions events
-later_all start asker v u more questions [] later d = tt
-later_all start asker v u more [] (event ∷ events) later d = absurd d
-later_all start asker v u more (a ∷ questions) (event ∷ events) later d = (d.0, later_delivered start asker v u more a event d.0 later d.1, d.2)
+later_all : (P : List Entry → Type 0) (start : World) (asker : NodeName) (v u : View) (more : List Entry) (questions : List Body) (events : List Event)
+    → u.front ≡ v.front ++ more → AreDeliveredSo P start asker u questions events → AreDeliveredSo P start asker v questions events
+later_all P start asker v u more questions [] later d = tt
+later_all P start asker v u more [] (event ∷ events) later d = absurd d
+later_all P start asker v u more (a ∷ questions) (event ∷ events) later d = (d.0, later_delivered start asker v u more a event d.0 later d.1, d.2, d.3)
 
-abbrev Goes : World → NodeName → Guest → RunId → List Body → List Event → Type 0
-Goes start asker g id questions events = AreDelivered start asker g.party.view questions events × IsHeardOf id start events
+abbrev pub Goes : (List Entry → Type 0) → World → NodeName → Guest → RunId → List Body → List Event → Type 0
+Goes P start asker g id questions events = AreDeliveredSo P start asker g.party.view questions events × IsHeardOf id start events
 
-nothing_heard : (start : World) (asker : NodeName) (g : Guest) (id : RunId) (questions : List Body) (events : List Event) → events ≡ [] → Goes start asker g id questions events
-nothing_heard start asker g id questions events none =
-    (subst (λ (l : List Event). AreDelivered start asker g.party.view questions l) (sym none) tt, inl none)
+nothing_heard : (P : List Entry → Type 0) (start : World) (asker : NodeName) (g : Guest) (id : RunId) (questions : List Body) (events : List Event) → events ≡ []
+    → Goes P start asker g id questions events
+nothing_heard P start asker g id questions events none =
+    (subst (λ (l : List Event). AreDeliveredSo P start asker g.party.view questions l) (sym none) tt, inl none)
 
 -- ---- after the login
 
-identified : (start : World) (asker : NodeName) (id : RunId) (questions : List Body) (g : Guest) (values : List Frame) (unread not_yet_got bytes : List ℕ) (h : Guest)
-    (replies : List Frame) (held not_yet_come : List ℕ) (events : List Event) (left : List Question)
+identified : (P : List Entry → Type 0) (start : World) (asker : NodeName) (id : RunId) (questions : List Body) (g : Guest) (values : List Frame)
+    (unread not_yet_got bytes : List ℕ) (h : Guest) (replies : List Frame) (held not_yet_come : List ℕ) (events : List Event) (left : List Question)
     → AllByRecursion IsAskable questions → is_stranger g.asker ≡ false → is_listening g.listening ≡ false → g.party.listens ≡ None
     → spelling id_value ++ flat_map message_bytes questions ≡ (flat_map spelling values ++ unread) ++ not_yet_got → AllByRecursion IsFrame values
-    → ServedBeside start g values bytes h
+    → (served : ServedBeside start g values bytes h) → EachTurn P start g values bytes h served
     → bytes ≡ (flat_map spelling replies ++ held) ++ not_yet_come → AllByRecursion IsLinkValue replies
     → Tells (SentinelAt start.plan.place) false (Identity id ∷ map question_of questions) replies events left
-    → Goes start asker g id questions events
-identified start asker id questions g values unread not_yet_got bytes h [] held not_yet_come events left askable known quiet silent sent whole served put_out read tells =
-    nothing_heard start asker g id questions events tells.0
-identified start asker id questions g [] unread not_yet_got bytes h (r ∷ rs) held not_yet_come events left askable known quiet silent sent whole served put_out read tells =
+    → Goes P start asker g id questions events
+identified P start asker id questions g values unread not_yet_got bytes h [] held not_yet_come events left askable known quiet silent sent whole served turns put_out read tells =
+    nothing_heard P start asker g id questions events tells.0
+identified P start asker id questions g [] unread not_yet_got bytes h (r ∷ rs) held not_yet_come events left askable known quiet silent sent whole served turns put_out read tells =
     absurd (spelled_some r ((flat_map spelling rs ++ held) ++ not_yet_come) (sym served.0 ∙ put_out ∙ by_first r rs held not_yet_come))
-identified start asker id questions g (x ∷ xs) unread not_yet_got bytes h (r ∷ rs) held not_yet_come events left askable known quiet silent sent whole served put_out
+identified P start asker id questions g (x ∷ xs) unread not_yet_got bytes h (r ∷ rs) held not_yet_come events left askable known quiet silent sent whole served turns put_out
     read tells =
     let voter = SentinelAt start.plan.place in
     let others_sent = flat_map message_bytes questions in
@@ -212,11 +214,11 @@ identified start asker id questions g (x ∷ xs) unread not_yet_got bytes h (r �
     let heard_id : heard_of voter (Identity id) (told_value (id_frame own)) ≡ Ok rest.got = ap (λ (f : Frame). heard_of voter (Identity id) (told_value f)) reply_is.0 ∙ rest.heard in
     let known_then : is_stranger middle.asker ≡ false = ap (λ (g : Guest). is_stranger g.asker) reply.2 ∙ (later.known ∙ known) in
     let quiet_then : is_listening middle.listening ≡ false = ap (λ (g : Guest). is_listening g.listening) reply.2 ∙ (ap is_listening later.quiet ∙ quiet) in
-    let all = delivered start asker questions middle xs unread not_yet_got others h rs held not_yet_come events left askable known_then quiet_then reply.1 value_is.1 whole.1
-    served.9 reply_is.1 read.1 rest.tells in
+    let all = delivered P start asker questions middle xs unread not_yet_got others h rs held not_yet_come events left askable known_then quiet_then reply.1 value_is.1 whole.1
+    served.9 turns.1 reply_is.1 read.1 rest.tells in
     let front : middle.party.view.front ≡ g.party.view.front ++ (later.more ++ reply.0.more) =
     reply.0.front ∙ (ap (λ (l : List Entry). l ++ reply.0.more) later.front ∙ append_assoc g.party.view.front later.more reply.0.more) in (
-      later_all start asker g.party.view middle.party.view (later.more ++ reply.0.more) questions events front all,
+      later_all P start asker g.party.view middle.party.view (later.more ++ reply.0.more) questions events front all,
       inr (same_run_id voter id own rest.got reply.0.is_id heard_id),
     )
 
@@ -227,19 +229,19 @@ abbrev Asks : Login → World → RunId → List Body → List Frame → List Ev
 Asks login start id questions replies events left =
     Tells (SentinelAt start.plan.place) false (login_questions login ++ (Identity id ∷ map question_of questions)) replies events left
 
-without_login : (start : World) (asker : NodeName) (g : Guest) (login : Login) (id : RunId) (questions : List Body) (events : List Event)
-    (c : IsConnectedAnew start g login id questions events) → c.greeting ≡ [] → Asks Without start id questions c.replies events c.left → Goes start asker g id questions events
-without_login start asker g login id questions events c none asks =
-    identified start asker id questions g c.values c.unread c.not_yet_got c.bytes c.h c.replies c.held c.not_yet_come events c.left c.askable c.known c.quiet c.silent
-    (c.sent ∙ ap (λ (t : List ℕ). t ++ c.not_yet_got) c.parts.0) c.parts.1 c.served
+without_login : (P : List Entry → Type 0) (start : World) (asker : NodeName) (g : Guest) (login : Login) (id : RunId) (questions : List Body) (events : List Event)
+    (c : IsConnectedAnew start g login id questions events) → EachTurn P start g c.values c.bytes c.h c.served → c.greeting ≡ [] → Asks Without start id questions c.replies events c.left → Goes P start asker g id questions events
+without_login P start asker g login id questions events c turns none asks =
+    identified P start asker id questions g c.values c.unread c.not_yet_got c.bytes c.h c.replies c.held c.not_yet_come events c.left c.askable c.known c.quiet c.silent
+    (c.sent ∙ ap (λ (t : List ℕ). t ++ c.not_yet_got) c.parts.0) c.parts.1 c.served turns
     (ap (λ (l : List Frame). flat_map spelling l ++ c.bytes) (sym none) ∙ (c.put_out ∙ ap (λ (t : List ℕ). t ++ c.not_yet_come) c.read.0)) c.read.1 asks
 
 -- a login, answered by one value
-with_login : (start : World) (asker : NodeName) (g : Guest) (login : Login) (id : RunId) (questions : List Body) (events : List Event)
-    (c : IsConnectedAnew start g login id questions events) (answer : Frame) → c.greeting ≡ answer ∷ [] → IsPlain answer → (replies : List Frame) → c.replies ≡ replies
-    → Tells (SentinelAt start.plan.place) false (Order ∷ (Identity id ∷ map question_of questions)) replies events c.left → Goes start asker g id questions events
-with_login start asker g login id questions events c answer one plain [] same asks = nothing_heard start asker g id questions events asks.0
-with_login start asker g login id questions events c answer one plain (r ∷ rs) same asks =
+with_login : (P : List Entry → Type 0) (start : World) (asker : NodeName) (g : Guest) (login : Login) (id : RunId) (questions : List Body) (events : List Event)
+    (c : IsConnectedAnew start g login id questions events) → EachTurn P start g c.values c.bytes c.h c.served → (answer : Frame) → c.greeting ≡ answer ∷ [] → IsPlain answer → (replies : List Frame) → c.replies ≡ replies
+    → Tells (SentinelAt start.plan.place) false (Order ∷ (Identity id ∷ map question_of questions)) replies events c.left → Goes P start asker g id questions events
+with_login P start asker g login id questions events c turns answer one plain [] same asks = nothing_heard P start asker g id questions events asks.0
+with_login P start asker g login id questions events c turns answer one plain (r ∷ rs) same asks =
     let voter = SentinelAt start.plan.place in
     let read : AllByRecursion IsLinkValue (r ∷ rs) = subst (AllByRecursion IsLinkValue) same c.read.1 in
     let came : c.came ≡ flat_map spelling (r ∷ rs) ++ c.held = c.read.0 ∙ ap (λ (l : List Frame). flat_map spelling l ++ c.held) same in
@@ -249,15 +251,22 @@ with_login start asker g login id questions events c answer one plain (r ∷ rs)
     greeted ∙ (c.put_out ∙ (ap (λ (t : List ℕ). t ++ c.not_yet_come) came ∙ by_first r rs c.held c.not_yet_come)) in
     let greeting_is = one_spelling answer r c.bytes ((flat_map spelling rs ++ c.held) ++ c.not_yet_come) plain (value_plain r read.0) whole in
     let rest = passed_over voter Order (Identity id ∷ map question_of questions) r rs events c.left (order_tells voter) asks in
-    identified start asker id questions g c.values c.unread c.not_yet_got c.bytes c.h rs c.held c.not_yet_come events c.left c.askable c.known c.quiet c.silent
-    (c.sent ∙ ap (λ (t : List ℕ). t ++ c.not_yet_got) c.parts.0) c.parts.1 c.served greeting_is.1 read.1 rest.tells
+    identified P start asker id questions g c.values c.unread c.not_yet_got c.bytes c.h rs c.held c.not_yet_come events c.left c.askable c.known c.quiet c.silent
+    (c.sent ∙ ap (λ (t : List ℕ). t ++ c.not_yet_got) c.parts.0) c.parts.1 c.served turns greeting_is.1 read.1 rest.tells
+
+-- what is delivered, with what holds of each turn
+pub delivered_anew : (P : List Entry → Type 0) (start : World) (asker : NodeName) (g : Guest) (login : Login) (id : RunId) (questions : List Body) (events : List Event)
+    (c : IsConnectedAnew start g login id questions events) → EachTurn P start g c.values c.bytes c.h c.served → Goes P start asker g id questions events
+delivered_anew P start asker g Without id questions events c turns = without_login P start asker g Without id questions events c turns c.greets c.tells
+delivered_anew P start asker g (Pass pass) id questions events c turns =
+    with_login P start asker g (Pass pass) id questions events c turns c.greets.0 c.greets.1 c.greets.2 c.replies refl c.tells
+delivered_anew P start asker g (User user pass) id questions events c turns =
+    with_login P start asker g (User user pass) id questions events c turns c.greets.0 c.greets.1 c.greets.2 c.replies refl c.tells
 
 pub new_connections_deliver : NewConnectionsDeliver
-new_connections_deliver start asker g Without id questions events c = without_login start asker g Without id questions events c c.greets c.tells
-new_connections_deliver start asker g (Pass pass) id questions events c =
-    with_login start asker g (Pass pass) id questions events c c.greets.0 c.greets.1 c.greets.2 c.replies refl c.tells
-new_connections_deliver start asker g (User user pass) id questions events c =
-    with_login start asker g (User user pass) id questions events c c.greets.0 c.greets.1 c.greets.2 c.replies refl c.tells
+new_connections_deliver start asker g login id questions events c =
+    let goes = delivered_anew (λ front. Unit {0}) start asker g login id questions events c (any_turn start g c.values c.bytes c.h c.served) in
+    (only_delivered (λ front. Unit {0}) start asker g.party.view questions events goes.0, goes.1)
 
 -- ---- in pieces
 

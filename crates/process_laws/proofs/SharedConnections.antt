@@ -1,5 +1,6 @@
 -- A connection to a port that has courtesies and other connections.
-use Rattle.std.proofs.Common.{◌≡◌, ◌≢◌, ℕ, false, List, [], ◌∷◌, ◌++◌, map, refl, ap, sym, ◌∙◌, subst, append_assoc, Option, Some, None, Result, Ok}
+use Rattle.std.proofs.Common.{◌≡◌, ◌≢◌, ℕ, false, List, [], ◌∷◌, ◌++◌, map, length, length-append, refl, ap, sym, ◌∙◌, subst, inl, inr, arith, append_assoc, Option, Some, None, Result, Ok}
+use Rattle.std.specs.Prelude.{◌⊎◌}
 use Rattle.std.specs.List.{flat_map, AllByRecursion}
 use Rattle.ballot_law.specs.declared.commands.Command.{Command}
 use Rattle.ballot_law.specs.declared.commands.Command.TheVariants.{Ping as PingCommand, IsMasterDownByAddr, Subscribe}
@@ -32,6 +33,7 @@ use Rattle.sentinel_cell.specs.declared.entry.Entry.{Entry}
 use Rattle.sentinel_cell.specs.declared.view.View.{View}
 use Rattle.sentinel_cell.specs.Histories.{World, replay}
 use Rattle.process_laws.specs.Connections.{IsAskable, Fits, answer_body, port_answer, IsDelivered, AreDelivered}
+use Rattle.process_laws.specs.Connected.{EachTurn}
 use Rattle.process_laws.specs.SharedConnections.{IsNear, ServedBeside, SharedAnswersAreDelivered, LaterQuestionsWait}
 use Rattle.process_laws.proofs.OwnCommands.{IsOwnAnswer, IsCopied, own_answer}
 use Rattle.process_laws.proofs.Joining.{spelled_some, first_asked, others_asked, by_first}
@@ -131,21 +133,47 @@ responds_alike start now g Done bytes h askable known quiet silent near serves =
 
 -- ---- the whole connection
 
-pub delivered : (start : World) (asker : NodeName) (questions : List Body) (g : Guest) (values : List Frame) (unread not_yet_got bytes : List ℕ) (h : Guest)
+-- AreDelivered, where this holds of all that the seat had seen after each answer
+abbrev pub AreDeliveredSo : (List Entry → Type 0) → World → NodeName → View → List Body → List Event → Type 0
+AreDeliveredSo P start asker v questions [] = Unit {0}
+AreDeliveredSo P start asker v [] (event ∷ events) = ⊥
+AreDeliveredSo P start asker v (question ∷ questions) (event ∷ events) =
+    (w : View) × IsDelivered start asker v question event w × P w.front × AreDeliveredSo P start asker w questions events
+
+pub only_delivered : (P : List Entry → Type 0) (start : World) (asker : NodeName) (v : View) (questions : List Body) (events : List Event)
+    → AreDeliveredSo P start asker v questions events → AreDelivered start asker v questions events
+only_delivered P start asker v questions [] d = tt
+only_delivered P start asker v [] (event ∷ events) d = absurd d
+only_delivered P start asker v (question ∷ questions) (event ∷ events) d = (d.0, d.1, only_delivered P start asker d.0 questions events d.3)
+
+pub any_turn : (start : World) (g : Guest) (values : List Frame) (bytes : List ℕ) (h : Guest) (served : ServedBeside start g values bytes h)
+    → EachTurn (λ front. Unit {0}) start g values bytes h served
+any_turn start g [] bytes h served = tt
+any_turn start g (value ∷ values) bytes h served = (inr tt, any_turn start served.2 values served.4 h served.9)
+
+-- a turn has one entry more
+by_turn : (P : List Entry → Type 0) (before between after : List Entry) (e : Entry) → after ≡ (before ++ between) ++ e ∷ [] → (after ≡ before) ⊎ P after → P after
+by_turn P before between after e grows (inl same) =
+    let longer : length before ≡ length ((before ++ between) ++ e ∷ []) = ap length (sym same ∙ grows) in
+    let one = length-append (before ++ between) (e ∷ []) in
+    let two = length-append before between in absurd (omega (arith, longer, one, two))
+by_turn P before between after e grows (inr holds) = holds
+
+pub delivered : (P : List Entry → Type 0) (start : World) (asker : NodeName) (questions : List Body) (g : Guest) (values : List Frame) (unread not_yet_got bytes : List ℕ) (h : Guest)
     (replies : List Frame) (held not_yet_come : List ℕ) (events : List Event) (left : List Question)
     → AllByRecursion IsAskable questions → is_stranger g.asker ≡ false → is_listening g.listening ≡ false → g.party.listens ≡ None
     → flat_map message_bytes questions ≡ (flat_map spelling values ++ unread) ++ not_yet_got → AllByRecursion IsFrame values
-    → ServedBeside start g values bytes h
+    → (served : ServedBeside start g values bytes h) → EachTurn P start g values bytes h served
     → bytes ≡ (flat_map spelling replies ++ held) ++ not_yet_come → AllByRecursion IsLinkValue replies
     → Tells (SentinelAt start.plan.place) false (map question_of questions) replies events left
-    → AreDelivered start asker g.party.view questions events
-delivered start asker questions g values unread not_yet_got bytes h [] held not_yet_come events left askable known quiet silent sent whole served put_out read tells =
-    subst (λ (all : List Event). AreDelivered start asker g.party.view questions all) (sym tells.0) tt
-delivered start asker [] g values unread not_yet_got bytes h (r ∷ rs) held not_yet_come events left askable known quiet silent sent whole served put_out read tells =
+    → AreDeliveredSo P start asker g.party.view questions events
+delivered P start asker questions g values unread not_yet_got bytes h [] held not_yet_come events left askable known quiet silent sent whole served turns put_out read tells =
+    subst (λ (all : List Event). AreDeliveredSo P start asker g.party.view questions all) (sym tells.0) tt
+delivered P start asker [] g values unread not_yet_got bytes h (r ∷ rs) held not_yet_come events left askable known quiet silent sent whole served turns put_out read tells =
     absurd (let e = tells.4 in let no : ⊥ = cc in no)
-delivered start asker (a ∷ questions) g [] unread not_yet_got bytes h (r ∷ rs) held not_yet_come events left askable known quiet silent sent whole served put_out read tells =
+delivered P start asker (a ∷ questions) g [] unread not_yet_got bytes h (r ∷ rs) held not_yet_come events left askable known quiet silent sent whole served turns put_out read tells =
     absurd (spelled_some r ((flat_map spelling rs ++ held) ++ not_yet_come) (sym served.0 ∙ put_out ∙ by_first r rs held not_yet_come))
-delivered start asker (a ∷ questions) g (x ∷ xs) unread not_yet_got bytes h (r ∷ rs) held not_yet_come events left askable known quiet silent sent whole served put_out read
+delivered P start asker (a ∷ questions) g (x ∷ xs) unread not_yet_got bytes h (r ∷ rs) held not_yet_come events left askable known quiet silent sent whole served turns put_out read
     tells =
     let voter = SentinelAt start.plan.place in
     let s = question_spelled a askable.0 in
@@ -178,18 +206,24 @@ delivered start asker (a ∷ questions) g (x ∷ xs) unread not_yet_got bytes h 
     let known_then : is_stranger middle.asker ≡ false = ap (λ (x : Guest). is_stranger x.asker) same ∙ (later.known ∙ known) in
     let quiet_then : is_listening middle.listening ≡ false = ap (λ (x : Guest). is_listening x.listening) same ∙ (ap is_listening later.quiet ∙ quiet) in
     let silenced : middle.party.listens ≡ None = ap (λ (x : Guest). x.party.listens) same ∙ reply.1 in
-    let others_delivered = delivered start asker questions middle xs unread not_yet_got others h rs held not_yet_come tells.3 left askable.1 known_then quiet_then silenced
-    question_is.1 whole.1 served.9 reply_is.1 read.1
+    let others_delivered = delivered P start asker questions middle xs unread not_yet_got others h rs held not_yet_come tells.3 left askable.1 known_then quiet_then silenced
+    question_is.1 whole.1 served.9 turns.1 reply_is.1 read.1
     (subst (λ (k : List Question). Tells voter false k rs tells.3 left) same_others tells.7) in
-    let after : AreDelivered start asker alike.q.view questions tells.3 =
-    subst (λ (w : View). AreDelivered start asker w questions tells.3) (ap (λ (x : Guest). x.party.view) same) others_delivered in
+    let seen : middle.party.view ≡ alike.q.view = ap (λ (x : Guest). x.party.view) same in
+    let after : AreDeliveredSo P start asker alike.q.view questions tells.3 =
+    subst (λ (w : View). AreDeliveredSo P start asker w questions tells.3) seen others_delivered in
+    let turn : (alike.q.view.front ≡ next.party.view.front) ⊎ P alike.q.view.front =
+    subst (λ (w : View). (w.front ≡ next.party.view.front) ⊎ P w.front) seen turns.0 in
+    let holds = by_turn P next.party.view.front event.2.between alike.q.view.front event.2.entry event.2.front turn in
     let here = later_delivered start asker g.party.view next.party.view later.more a event.0 alike.q.view later.front event.2 in
-    subst (λ (list : List Event). AreDelivered start asker g.party.view (a ∷ questions) list) (sym all) (alike.q.view, here, after)
+    subst (λ (list : List Event). AreDeliveredSo P start asker g.party.view (a ∷ questions) list) (sym all) (alike.q.view, here, holds, after)
 
 pub shared_answers_are_delivered : SharedAnswersAreDelivered
 shared_answers_are_delivered start asker g questions events c =
-    delivered start asker questions g c.values c.unread c.not_yet_got c.bytes c.h c.replies c.held c.not_yet_come events c.left c.askable c.known c.quiet c.silent
-    (c.sent ∙ ap (λ (t : List ℕ). t ++ c.not_yet_got) c.parts.0) c.parts.1 c.served (c.put_out ∙ ap (λ (t : List ℕ). t ++ c.not_yet_come) c.read.0) c.read.1 c.tells
+    only_delivered (λ front. Unit {0}) start asker g.party.view questions events
+    (delivered (λ front. Unit {0}) start asker questions g c.values c.unread c.not_yet_got c.bytes c.h c.replies c.held c.not_yet_come events c.left c.askable c.known c.quiet
+    c.silent
+    (c.sent ∙ ap (λ (t : List ℕ). t ++ c.not_yet_got) c.parts.0) c.parts.1 c.served (any_turn start g c.values c.bytes c.h c.served) (c.put_out ∙ ap (λ (t : List ℕ). t ++ c.not_yet_come) c.read.0) c.read.1 c.tells)
 
 -- ---- questions that are asked later
 
