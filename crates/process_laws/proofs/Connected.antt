@@ -14,30 +14,29 @@ use Rattle.ballot_law.specs.declared.messages.NodeName.TheVariants.{SentinelAt}
 use Rattle.ballot_law.specs.declared.messages.Output.TheVariants.{Send}
 use Rattle.ballot_law.specs.declared.steps.KeptText.{KeptText}
 use Rattle.ballot_law.specs.Law.{HasOneLeader, HasOneAddress}
-use Rattle.ballot_law.specs.Rosters.{Roster, size}
+use Rattle.ballot_law.specs.declared.rosters.Member.{Member}
+use Rattle.ballot_law.specs.Rosters.{Roster, size, id_of, no_member, HasDistinctIds}
 use Rattle.ballot_law.specs.Worlds.{World as Group}
 use Rattle.links.specs.declared.sessions.questions.Question.{Question}
 use Rattle.links.specs.Sessions.Links.{Tells as LinkTells}
-use Rattle.links.specs.Sessions.LongValues.{LinkParts}
-use Rattle.resp2.specs.Framing.Frame.{Frame}
 use Rattle.sentinel_cell.specs.declared.entry.Entry.{Entry}
 use Rattle.sentinel_cell.specs.declared.entry.Outcome.{Outcome}
 use Rattle.sentinel_cell.specs.declared.entry.Outcome.TheVariants.{Stored, Refused, Halted}
 use Rattle.sentinel_cell.specs.declared.view.View.{View}
 use Rattle.sentinel_cell.specs.EntrySteps.{kept_left}
 use Rattle.sentinel_cell.specs.Histories.{World, IsOutcome, AreSteps, after, after_outcome, replay}
-use Rattle.sentinel_rules.specs.Plans.{Plan}
+use Rattle.sentinel_rules.specs.Plans.{Plan, roster_of, me, group_size}
 use Rattle.process_laws.specs.Actions.{Action, Opened, Took, Told, Process, IsOpened, IsHeard, file_after, sent_by, action_after, actions_after, all_sent, all_said, all_elected, AreActions, at_first, FilesNeverFall}
 use Rattle.process_laws.specs.Connections.{IsAskable, IsDelivered, port_answer}
-use Rattle.process_laws.specs.Connected.{Deed, Takes, Tells, Life, history_of, filed, file_of, IsOfMasters, AreLives, action_of, actions_of, IsToldBy, TellsOfRunIds, HasAnswered, IsCarried, MayTake, ConnectedProcessesAreSafe}
+use Rattle.process_laws.specs.Connected.{Deed, Takes, Tells, Life, history_of, filed, file_of, IsOfMasters, AreLives, action_of, actions_of, LinkWord, Says, AsksRow, IsAskableWord, IsAboutOne, IsAnsweredRow, TellsOfRunIds, HasAnswered, IsCarried, IsHeardFrom, MayTake, ConnectedProcessesAreSafe}
 use Rattle.process_laws.specs.HeardAnswers.{IsOfOneMaster}
-use Rattle.process_laws.specs.Openings.{IsConnectedAnew}
 use Rattle.process_laws.specs.OwnActions.{AreOwnActions, HearWell}
 use Rattle.process_laws.proofs.HeardAnswers.{answers_are_heard}
-use Rattle.process_laws.proofs.Openings.{delivered_anew}
+use Rattle.process_laws.proofs.Openings.{IsLinked, links_deliver}
 use Rattle.process_laws.proofs.OwnActions.{own_actions_are_actions}
 use Rattle.process_laws.proofs.Safety.{after_both, processes_are_safe}
 use Rattle.process_laws.proofs.SharedConnections.{AreDeliveredSo}
+use Rattle.process_laws.proofs.Words.{RowIsOne}
 
 -- ---- what each process did by itself
 
@@ -98,13 +97,13 @@ sent_before (a ∷ before) d there message sent =
     (λ (later : Contains before d). Contains-append_right (sent_by a) (all_sent before) message (sent_before before d later message sent))
     (by_index a d before there.0 there.1 there.2)
 
-module _ (before : List Action) (start : World) (i : ℕ) (plan : Plan) (stores : ℕ) where
-  abbrev Asked : List Entry → Type 0
-  Asked front = HasAnswered before start.plan.place i front
+abbrev Asked : (before : List Action) (start : World) (i : ℕ) → List Entry → Type 0
+Asked before start i front = HasAnswered before start.plan.place i front
 
+module _ (before : List Action) (start : World) (i : ℕ) (plan : Plan) (stores : ℕ) where
   -- the answer that was delivered is one that was sent before
   one_heard : (v w : View) (question : Body) (event : Event) → IsAskable question → IsOfOneMaster start.plan question
-      → IsDelivered start (SentinelAt i) v question event w → Asked w.front → IsHeard plan stores (all_sent before) i event
+      → IsDelivered start (SentinelAt i) v question event w → Asked before start i w.front → IsHeard plan stores (all_sent before) i event
   one_heard v w question event askable one d a =
       let history = v.front ++ d.between in
       let entry_is : a.entry ≡ d.entry = (same_from_push a.earlier history a.entry d.entry (sym a.front_is ∙ d.front)).1 in
@@ -115,22 +114,37 @@ module _ (before : List Action) (start : World) (i : ℕ) (plan : Plan) (stores 
       (λ message sent. sent_before before (Took start.plan.place a.entry (SentinelAt i) a.left) a.took message
       (subst (λ (e : Entry). Contains (sent_by (Took start.plan.place e (SentinelAt i) a.left)) message) (sym entry_is) sent))
 
-  heard_so : (v : View) (questions : List Body) (events : List Event) (event : Event) → AllByRecursion IsAskable questions
-      → AllByRecursion (IsOfOneMaster start.plan) questions → AreDeliveredSo Asked start (SentinelAt i) v questions events → Contains events event
+  heard_so : (v : View) (words : List LinkWord) (events : List Event) (event : Event) → AllByRecursion IsAskableWord words
+      → AllByRecursion (IsAboutOne start.plan) words → AreDeliveredSo (Asked before start i) start (SentinelAt i) v words events → Contains events event
       → IsHeard plan stores (all_sent before) i event
-  heard_so v questions [] event askable one d there = let low = there.1 in absurd (omega (arith, low))
+  heard_so v words [] event askable one d there = let low = there.1 in absurd (omega (arith, low))
   heard_so v [] (e ∷ events) event askable one d there = absurd d
-  heard_so v (question ∷ questions) (e ∷ events) event askable one d there =
+  heard_so v (AsksRow name ∷ words) (e ∷ events) event askable one d there = heard_so v words (e ∷ events) event askable.1 one.1 d there
+  heard_so v (Says question ∷ words) (e ∷ events) event askable one d there =
       ⊎_elim
       (λ (is : e ≡ event). subst (IsHeard plan stores (all_sent before) i) is (one_heard v d.0 question e askable.0 one.0 d.1 d.2))
-      (λ (later : Contains events event). heard_so d.0 questions events event askable.1 one.1 d.3 later)
+      (λ (later : Contains events event). heard_so d.0 words events event askable.1 one.1 d.3 later)
       (by_index e event events there.0 there.1 there.2)
 
-  -- the connection, by what the link heard and what was carried
-  abbrev connection : (asked : List Question) (came : List ℕ) (c : IsCarried before i start asked came) (values : List Frame) (rest : List ℕ) (events : List Event)
-      (left : List Question) → LinkParts came values rest → LinkTells (SentinelAt start.plan.place) false asked values events left
-      → IsConnectedAnew start c.g c.login c.id c.questions events
-  connection asked came c values rest events left parts tells = record {
+-- a row is answered by one value
+rows_are_one : (words : List LinkWord) → AllByRecursion (RowIsOne IsAnsweredRow) words
+rows_are_one [] = tt
+rows_are_one (Says body ∷ words) = (tt, rows_are_one words)
+rows_are_one (AsksRow name ∷ words) = (λ bytes answered. answered name refl, rows_are_one words)
+
+module _ (roster : Roster) (plan : Plan) (stores : ℕ) (before : List Action) (i k : ℕ) (event : Event) (h : IsHeardFrom roster before i k event) where
+  abbrev c : IsCarried roster before i (id_of roster k) h.start h.asked h.came
+  c = h.carried
+
+  abbrev heard_there : List Event
+  heard_there = h.told.before ++ event ∷ h.told.after
+
+  among : Contains heard_there event
+  among = Contains-append_right h.told.before (event ∷ h.told.after) event (zero, omega arith, refl)
+
+  linked : IsLinked (Asked before h.start i) IsAnsweredRow h.start (SentinelAt k) c.g c.login (id_of roster k) c.words heard_there
+  linked = record {
+    rows = rows_are_one c.words;
     askable = c.askable;
     known = c.known;
     quiet = c.quiet;
@@ -146,35 +160,38 @@ module _ (before : List Action) (start : World) (i : ℕ) (plan : Plan) (stores 
     bytes = c.bytes;
     h = c.h;
     served = c.served;
-    came = came;
+    turns = c.turns;
+    came = h.came;
     not_yet_come = c.not_yet_come;
     put_out = c.put_out;
-    replies = values;
-    held = rest;
-    read = parts;
-    left = left;
-    tells = subst (λ (l : List Question). LinkTells (SentinelAt start.plan.place) false l values events left) c.asked_is tells;
+    replies = h.told.values;
+    held = h.told.rest;
+    read = h.told.parts;
+    left = h.told.left;
+    tells = subst (λ (l : List Question). LinkTells (SentinelAt k) false l h.told.values heard_there h.told.left) c.asked_is h.told.tells;
   }
 
-  over_connection : (asked : List Question) (came : List ℕ) (c : IsCarried before i start asked came) (values : List Frame) (rest : List ℕ) (events : List Event)
-      (left : List Question) (event : Event) → LinkParts came values rest → LinkTells (SentinelAt start.plan.place) false asked values events left → Contains events event
-      → IsHeard plan stores (all_sent before) i event
-  over_connection asked came c values rest events left event parts tells there =
-      let goes = delivered_anew Asked start (SentinelAt i) c.g c.login c.id c.questions events (connection asked came c values rest events left parts tells) c.turns in
-      heard_so c.g.party.view c.questions events event c.askable c.alone goes.0 there
+  -- who has the run id is the Sentinel that was meant
+  met : HasDistinctIds roster → me h.start.plan ≡ id_of roster k → h.start.plan.place < group_size h.start.plan → k ≡ h.start.plan.place
+  met ids is low =
+      let sentinels : (roster_of h.start.plan).sentinels ≡ roster.sentinels = c.roster_is.0 in
+      let within : h.start.plan.place < size roster = subst (λ (l : List Member). h.start.plan.place < length l) sentinels low in
+      let own : id_of roster h.start.plan.place ≡ id_of roster k =
+      sym (ap (λ (l : List Member). (slice_index_or l h.start.plan.place no_member).id) sentinels) ∙ is in sym (ids h.start.plan.place k within h.within own)
 
-  heard_by : (asked : List Question) (came : List ℕ) (event : Event) → IsToldBy (SentinelAt start.plan.place) asked came event → IsCarried before i start asked came
-      → IsHeard plan stores (all_sent before) i event
-  heard_by asked came event t c =
-      let among : Contains (t.before ++ event ∷ t.after) event = Contains-append_right t.before (event ∷ t.after) event (zero, omega arith, refl) in
-      over_connection asked came c t.values t.rest (t.before ++ event ∷ t.after) t.left event t.parts t.tells among
+  over_connection : HasDistinctIds roster → IsHeard plan stores (all_sent before) i event
+  over_connection ids =
+      ⊎_elim
+      (λ (none : heard_there ≡ []). let low = (subst (λ (l : List Event). Contains l event) none among).1 in absurd (omega (arith, low)))
+      (λ goes. heard_so before h.start i plan stores c.g.party.view c.words heard_there event c.askable c.alone (goes.2 (ap SentinelAt (met ids goes.0 goes.1))) among)
+      (links_deliver (Asked before h.start i) IsAnsweredRow h.start (SentinelAt i) (SentinelAt k) c.g c.login (id_of roster k) c.words heard_there linked)
 
 -- what may be taken is heard as the laws of processes ask it
-taken_is_heard : (plan : Plan) (stores : ℕ) (before : List Action) (i : ℕ) (event : Event) → MayTake plan stores before i event
-    → IsHeard plan stores (all_sent before) i event
-taken_is_heard plan stores before i event (inl free) = inl free
-taken_is_heard plan stores before i event (inr (inl hello)) = inr (inr hello)
-taken_is_heard plan stores before i event (inr (inr came)) = heard_by before came.0 i plan stores came.1 came.2 event came.3 came.4
+taken_is_heard : (roster : Roster) (plan : Plan) (stores : ℕ) (before : List Action) (i : ℕ) (event : Event) → HasDistinctIds roster
+    → MayTake roster plan stores before i event → IsHeard plan stores (all_sent before) i event
+taken_is_heard roster plan stores before i event ids (inl free) = inl free
+taken_is_heard roster plan stores before i event ids (inr (inl hello)) = inr (inr hello)
+taken_is_heard roster plan stores before i event ids (inr (inr came)) = over_connection roster plan stores before i came.0 event came.1 ids
 
 -- ---- all of them, in their order
 
@@ -183,10 +200,10 @@ sent_both [] more = refl
 sent_both (d ∷ ds) more = ap (λ (l : List Message). sent_by d ++ l) (sent_both ds more) ∙ sym (append_assoc (sent_by d) (all_sent ds) (all_sent more))
 
 -- what is asked of each action that took an input, at its place
-abbrev EachHears : Group → List Action → Type 0
-EachHears start order =
+abbrev EachHears : Roster → Group → List Action → Type 0
+EachHears roster start order =
     (i : ℕ) (entry : Entry) (asker : NodeName) (left : KeptText) (before later : List Action) → order ≡ before ++ Took i entry asker left ∷ later
-    → MayTake (actions_after (at_first start) before i).world.plan (length start.stores) before i entry.input.event
+    → MayTake roster (actions_after (at_first start) before i).world.plan (length start.stores) before i entry.input.event
 
 -- after these actions the others hear what was sent before
 abbrev HearOn : Group → (before ds : List Action) → Type 0
@@ -199,19 +216,19 @@ on_after start before d ds h =
     sent_both before (d ∷ []) ∙ ap (λ (l : List Message). all_sent before ++ l) (append-nil (sent_by d)) in
     subst (λ (x : (ℕ → Process) × List Message). HearWell (length start.stores) x.0 x.1 ds) (λ j. (after_both (at_first start) before (d ∷ []) j, sent_is j)) h
 
-hear_on : (start : Group) (order : List Action) → EachHears start order → (before ds : List Action) → order ≡ before ++ ds → HearOn start before ds
-hear_on start order hears before [] cut = tt
-hear_on start order hears before (Opened i w now ∷ ds) cut =
+hear_on : (roster : Roster) (start : Group) (order : List Action) → HasDistinctIds roster → EachHears roster start order → (before ds : List Action) → order ≡ before ++ ds → HearOn start before ds
+hear_on roster start order ids hears before [] cut = tt
+hear_on roster start order ids hears before (Opened i w now ∷ ds) cut =
     let d = Opened i w now in
-    (tt, on_after start before d ds (hear_on start order hears (before ++ d ∷ []) ds (cut ∙ sym (append_assoc before (d ∷ []) ds))))
-hear_on start order hears before (Told i m ∷ ds) cut =
+    (tt, on_after start before d ds (hear_on roster start order ids hears (before ++ d ∷ []) ds (cut ∙ sym (append_assoc before (d ∷ []) ds))))
+hear_on roster start order ids hears before (Told i m ∷ ds) cut =
     let d = Told i m in
-    (tt, on_after start before d ds (hear_on start order hears (before ++ d ∷ []) ds (cut ∙ sym (append_assoc before (d ∷ []) ds))))
-hear_on start order hears before (Took i e asker left ∷ ds) cut =
+    (tt, on_after start before d ds (hear_on roster start order ids hears (before ++ d ∷ []) ds (cut ∙ sym (append_assoc before (d ∷ []) ds))))
+hear_on roster start order ids hears before (Took i e asker left ∷ ds) cut =
     let d = Took i e asker left in
     let plan = (actions_after (at_first start) before i).world.plan in (
-      taken_is_heard plan (length start.stores) before i e.input.event (hears i e asker left before ds cut),
-      on_after start before d ds (hear_on start order hears (before ++ d ∷ []) ds (cut ∙ sym (append_assoc before (d ∷ []) ds))),
+      taken_is_heard roster plan (length start.stores) before i e.input.event ids (hears i e asker left before ds cut),
+      on_after start before d ds (hear_on roster start order ids hears (before ++ d ∷ []) ds (cut ∙ sym (append_assoc before (d ∷ []) ds))),
     )
 
 pub connected_processes_are_safe : ConnectedProcessesAreSafe
@@ -219,7 +236,7 @@ connected_processes_are_safe roster start lives order ids is c =
     let own = λ (i : ℕ) (low : i < size roster). subst (AreOwnActions roster (at_first start i)) (sym (c.own i low))
     (lives_are_own roster i (at_first start i) (at_first start i).file (lives i) refl (c.lived i low)) in
     let all : AreActions roster (length start.stores) (at_first start) [] order =
-    own_actions_are_actions roster (length start.stores) (at_first start) [] order c.no_others own (hear_on start order c.heard [] order refl) in
+    own_actions_are_actions roster (length start.stores) (at_first start) [] order c.no_others own (hear_on roster start order ids c.heard [] order refl) in
     let whole = processes_are_safe roster start order [] ids is (subst (AreActions roster (length start.stores) (at_first start) []) (sym (append-nil order)) all) in (
       all,
       subst (λ (l : List Action). HasOneLeader (all_elected (at_first start) l)) (append-nil order) whole.0,

@@ -11,6 +11,7 @@ pub mod TwoLists
 pub mod TwoProcesses
 pub mod Reading
 pub mod Turns
+pub mod Words
 pub mod Joining
 pub mod About
 pub mod OwnCommands
