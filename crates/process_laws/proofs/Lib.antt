@@ -11,6 +11,7 @@ pub mod TwoLists
 pub mod TwoProcesses
 pub mod Reading
 pub mod Turns
+pub mod Words
 pub mod Joining
 pub mod About
 pub mod OwnCommands
@@ -19,3 +20,4 @@ pub mod HeardAnswers
 pub mod Pieces
 pub mod Openings
 pub mod OwnActions
+pub mod Connected

@@ -1,6 +1,6 @@
 -- What comes before all messages on a connection is answered by one value each, and tells nothing.
-use Rattle.std.proofs.Common.{◌≡◌, ℕ, Bool, true, false, List, [], ◌∷◌, ◌++◌, length, map, refl, ap, sym, ◌∙◌, subst, inl, inr, arith, append_assoc, Option, Some, None, Result, Ok, Err, nat_lt}
-use Rattle.std.specs.Prelude.{codes, take, if◌then◌else◌}
+use Rattle.std.proofs.Common.{◌≡◌, ℕ, Bool, true, false, List, [], ◌∷◌, ◌++◌, length, map, refl, ap, sym, ◌∙◌, subst, inl, inr, ⊎_elim, arith, append_assoc, Option, Some, None, Result, Ok, Err, nat_lt}
+use Rattle.std.specs.Prelude.{◌⊎◌, ◌<◌, codes, take, if◌then◌else◌}
 use Rattle.std.specs.List.{flat_map, AllByRecursion}
 use Rattle.std.proofs.lemmas.List.{append-nil}
 use Rattle.ballot_law.specs.declared.addresses.RunId.{RunId}
@@ -24,15 +24,16 @@ use Rattle.links.specs.declared.sessions.questions.Question.{Question}
 use Rattle.links.specs.declared.sessions.questions.Question.TheVariants.{Order, Identity}
 use Rattle.links.specs.declared.speaking.Login.{Login}
 use Rattle.links.specs.declared.speaking.Login.TheVariants.{Without, Pass, User}
-use Rattle.links.specs.Speaking.{login_questions}
-use Rattle.links.specs.Sessions.Links.{question_of, listed, heard_of, named, Tells}
-use Rattle.links.specs.Sessions.LongValues.{told_value, told_of, IsLinkValue, whole_lines}
+use Rattle.links.specs.Speaking.{login_questions, id_bytes, id_questions}
+use Rattle.links.specs.Sessions.Links.{heard_of, named, Tells}
+use Rattle.links.specs.Sessions.LongValues.{LinkParts, told_value, told_of, IsLinkValue, whole_lines}
 use Rattle.links.proofs.SessionsLemmas.Values.{value_plain}
 use Rattle.node_texts.specs.Messages.MessageTexts.{message_bytes, body_frame, words_frame}
 use Rattle.port_answers.specs.Answers.{id_frame}
 use Rattle.port_sessions.specs.Talks.{Party, party}
 use Rattle.pubsub.specs.Listening.{is_listening}
 use Rattle.resp2.specs.Commands.{command_of}
+use Rattle.resp2.specs.Framing.Stream.{Parts}
 use Rattle.resp2.specs.Framing.Frame.{Frame, simple, fault, int, bulk, null_bulk, items, null_items, spelling, IsPlain, IsFrame}
 use Rattle.resp2.proofs.AskFrames.{short_array}
 use Rattle.resp2.proofs.FramingLemmas.Streams.{one_spelling}
@@ -41,23 +42,19 @@ use Rattle.sentinel_cell.specs.declared.entry.Entry.{Entry}
 use Rattle.sentinel_cell.specs.declared.view.View.{View}
 use Rattle.sentinel_cell.specs.Histories.{World, replay}
 use Rattle.sentinel_cell.proofs.Cards.{same_plan}
-use Rattle.sentinel_rules.specs.Plans.{Plan, me}
-use Rattle.process_laws.specs.Connections.{IsAskable, AreDelivered}
+use Rattle.sentinel_rules.specs.Plans.{Plan, me, group_size}
+use Rattle.process_laws.specs.Connections.{AreDelivered}
+use Rattle.process_laws.specs.Connected.{LinkWord, Says, bytes_of, question_for, IsAskableWord, EachTurn}
 use Rattle.process_laws.specs.SharedConnections.{ServedBeside}
-use Rattle.process_laws.specs.Openings.{IsConnectedAnew, IsHeardOf, NewConnectionsDeliver, PiecesAreANewConnection}
+use Rattle.process_laws.specs.Openings.{IsGreeting, IsConnectedAnew, NewConnectionsDeliver, PiecesAreANewConnection}
 use Rattle.process_laws.proofs.OwnCommands.{own_answer}
-use Rattle.process_laws.proofs.Joining.{spelled_some, first_asked, others_asked, by_first}
+use Rattle.process_laws.proofs.Joining.{spelled_some, by_first}
 use Rattle.process_laws.proofs.Pieces.{questions_spelled, served_as_sent}
-use Rattle.process_laws.proofs.SharedConnections.{later_delivered, delivered}
+use Rattle.process_laws.proofs.SharedConnections.{AreDeliveredSo, only_delivered, later_all, Anything, Whatever, any_turn, delivered}
 use Rattle.process_laws.proofs.Turns.{answers, turned, no_null}
+use Rattle.process_laws.proofs.Words.{TellsNothing, order_tells, passed_over, RowIsOne, said_bytes, said_asked, said_askable, said_no_row}
 
--- ---- a question whose answer tells nothing
-
-abbrev TellsNothing : NodeName → Question → Type 0
-TellsNothing node k = (f : Frame) (got : Option Event) → heard_of node k f ≡ Ok got → got ≡ None
-
-order_tells : (node : NodeName) → TellsNothing node Order
-order_tells node f got e = cc
+-- ---- the run id that was told
 
 named_tells : (id : RunId) (found : Option RunId) (got : Option Event) → named id found ≡ Ok got → (got ≡ None) × ((other : RunId) → found ≡ Some other → same_id id other ≡ true)
 named_tells id (Some other) got e = by_test (same_id id other) refl e
@@ -76,23 +73,6 @@ identity_tells node id (int n) got e = absurd (let no : ⊥ = cc in no)
 identity_tells node id null_bulk got e = absurd (let no : ⊥ = cc in no)
 identity_tells node id (items fs) got e = absurd (let no : ⊥ = cc in no)
 identity_tells node id null_items got e = absurd (let no : ⊥ = cc in no)
-
--- the other values tell all that is told
-pub record TellsRest (node : NodeName) (k : Question) (asked : List Question) (r : Frame) (rs : List Frame) (events : List Event) (left : List Question) : Type 0 where
-  pub got : Option Event
-  pub heard : heard_of node k (told_value r) ≡ Ok got
-  pub tells : Tells node false asked rs events left
-
-passed_over : (node : NodeName) (k : Question) (asked : List Question) (r : Frame) (rs : List Frame) (events : List Event) (left : List Question) → TellsNothing node k
-    → Tells node false (k ∷ asked) (r ∷ rs) events left → TellsRest node k asked r rs events left
-passed_over node k asked r rs events left nothing tells =
-    let same_question : k ≡ tells.0 = first_asked k tells.0 asked tells.1 tells.4 in
-    let same_others : tells.1 ≡ asked = others_asked k tells.0 asked tells.1 tells.4 in
-    let heard : heard_of node k (told_value r) ≡ Ok tells.2 = ap (λ (q : Question). heard_of node q (told_value r)) same_question ∙ tells.5 in
-    let none : tells.2 ≡ None = nothing (told_value r) tells.2 heard in
-    let all : events ≡ tells.3 = tells.6 ∙ ap (λ (o : Option Event). listed o ++ tells.3) none in
-    let rest : Tells node false asked rs tells.3 left = subst (λ (l : List Question). Tells node false l rs tells.3 left) same_others tells.7 in
-    record { got = tells.2; heard = heard; tells = subst (λ (l : List Event). Tells node false asked rs l left) (sym all) rest }
 
 -- ---- the question for the run id
 
@@ -113,6 +93,7 @@ id_as_it_is (Some epoch) = refl
 pub record IdReply (start : World) (v : View) (bytes : List ℕ) (w : View) : Type 0 where
   pub more : List Entry
   pub front : w.front ≡ v.front ++ more
+  pub place : start.plan.place < group_size start.plan
   pub is_id : IsRunId (me start.plan)
   pub spelled : bytes ≡ spelling (id_frame (me start.plan))
 
@@ -141,6 +122,7 @@ id_replied start now g bytes h known quiet silent serves =
       record {
         more = t.between ++ t.entry ∷ [];
         front = ap (λ (p : Party). p.view.front) (sym party_is) ∙ (t.front ∙ append_assoc g.party.view.front t.between (t.entry ∷ []));
+        place = sound.place;
         is_id = (sound.conf.members start.plan.place sound.place).1;
         spelled = told ∙ spelled;
       },
@@ -162,102 +144,166 @@ same_run_id node id own got is e =
 
 -- ---- what is delivered later
 
-later_all : (start : World) (asker : NodeName) (v u : View) (more : List Entry) (questions : List Body) (events : List Event) → u.front ≡ v.front ++ more
-    → AreDelivered start asker u questions events → AreDelivered start asker v questions events
-later_all start asker v u more questions [] later d = tt
-later_all start asker v u more [] (event ∷ events) later d = absurd d
-later_all start asker v u more (a ∷ questions) (event ∷ events) later d = (d.0, later_delivered start asker v u more a event d.0 later d.1, d.2)
-
-abbrev Goes : World → NodeName → Guest → RunId → List Body → List Event → Type 0
-Goes start asker g id questions events = AreDelivered start asker g.party.view questions events × IsHeardOf id start events
-
-nothing_heard : (start : World) (asker : NodeName) (g : Guest) (id : RunId) (questions : List Body) (events : List Event) → events ≡ [] → Goes start asker g id questions events
-nothing_heard start asker g id questions events none =
-    (subst (λ (l : List Event). AreDelivered start asker g.party.view questions l) (sym none) tt, inl none)
+-- nothing was heard, or the other end has this run id, and what was heard in its name is delivered
+abbrev pub Goes : (List Entry → Type 0) → World → (asker voter : NodeName) → Guest → RunId → List LinkWord → List Event → Type 0
+Goes P start asker voter g id words events =
+    (events ≡ []) ⊎ ((me start.plan ≡ id) × (start.plan.place < group_size start.plan)
+    × (voter ≡ SentinelAt start.plan.place → AreDeliveredSo P start asker g.party.view words events))
 
 -- ---- after the login
 
-identified : (start : World) (asker : NodeName) (id : RunId) (questions : List Body) (g : Guest) (values : List Frame) (unread not_yet_got bytes : List ℕ) (h : Guest)
-    (replies : List Frame) (held not_yet_come : List ℕ) (events : List Event) (left : List Question)
-    → AllByRecursion IsAskable questions → is_stranger g.asker ≡ false → is_listening g.listening ≡ false → g.party.listens ≡ None
-    → spelling id_value ++ flat_map message_bytes questions ≡ (flat_map spelling values ++ unread) ++ not_yet_got → AllByRecursion IsFrame values
-    → ServedBeside start g values bytes h
-    → bytes ≡ (flat_map spelling replies ++ held) ++ not_yet_come → AllByRecursion IsLinkValue replies
-    → Tells (SentinelAt start.plan.place) false (Identity id ∷ map question_of questions) replies events left
-    → Goes start asker g id questions events
-identified start asker id questions g values unread not_yet_got bytes h [] held not_yet_come events left askable known quiet silent sent whole served put_out read tells =
-    nothing_heard start asker g id questions events tells.0
-identified start asker id questions g [] unread not_yet_got bytes h (r ∷ rs) held not_yet_come events left askable known quiet silent sent whole served put_out read tells =
-    absurd (spelled_some r ((flat_map spelling rs ++ held) ++ not_yet_come) (sym served.0 ∙ put_out ∙ by_first r rs held not_yet_come))
-identified start asker id questions g (x ∷ xs) unread not_yet_got bytes h (r ∷ rs) held not_yet_come events left askable known quiet silent sent whole served put_out
-    read tells =
-    let voter = SentinelAt start.plan.place in
-    let others_sent = flat_map message_bytes questions in
-    let value_is = one_spelling id_value x others_sent ((flat_map spelling xs ++ unread) ++ not_yet_got) id_value_whole.plain whole.0.plain
-    (sent ∙ by_first x xs unread not_yet_got) in
-    let next = served.1 in
-    let middle = served.2 in
-    let first = served.3 in
-    let others = served.4 in
-    let later = served.6 in
-    let serves : TellsClient start served.0 next id_value first middle = subst (λ (f : Frame). TellsClient start served.0 next f first middle) (sym value_is.0) served.8 in
-    let reply = id_replied start served.0 next first middle (later.known ∙ known) (ap is_listening later.quiet ∙ quiet) (later.silent ∙ silent) serves in
-    let own = me start.plan in
-    let len = length-id_text own in
-    let plain : IsPlain (id_frame own) = omega (arith, len) in
-    let reply_bytes : spelling (id_frame own) ++ others ≡ spelling r ++ ((flat_map spelling rs ++ held) ++ not_yet_come) =
-    ap (λ (t : List ℕ). t ++ others) (sym reply.0.spelled) ∙ sym served.5 ∙ put_out ∙ by_first r rs held not_yet_come in
-    let reply_is = one_spelling (id_frame own) r others ((flat_map spelling rs ++ held) ++ not_yet_come) plain (value_plain r read.0) reply_bytes in
-    let rest = passed_over voter (Identity id) (map question_of questions) r rs events left (identity_tells voter id) tells in
-    let heard_id : heard_of voter (Identity id) (told_value (id_frame own)) ≡ Ok rest.got = ap (λ (f : Frame). heard_of voter (Identity id) (told_value f)) reply_is.0 ∙ rest.heard in
-    let known_then : is_stranger middle.asker ≡ false = ap (λ (g : Guest). is_stranger g.asker) reply.2 ∙ (later.known ∙ known) in
-    let quiet_then : is_listening middle.listening ≡ false = ap (λ (g : Guest). is_listening g.listening) reply.2 ∙ (ap is_listening later.quiet ∙ quiet) in
-    let all = delivered start asker questions middle xs unread not_yet_got others h rs held not_yet_come events left askable known_then quiet_then reply.1 value_is.1 whole.1
-    served.9 reply_is.1 read.1 rest.tells in
-    let front : middle.party.view.front ≡ g.party.view.front ++ (later.more ++ reply.0.more) =
-    reply.0.front ∙ (ap (λ (l : List Entry). l ++ reply.0.more) later.front ∙ append_assoc g.party.view.front later.more reply.0.more) in (
-      later_all start asker g.party.view middle.party.view (later.more ++ reply.0.more) questions events front all,
-      inr (same_run_id voter id own rest.got reply.0.is_id heard_id),
-    )
+module _ (P : List Entry → Type 0) (Q : Frame → List ℕ → Type 0) (start : World) (asker voter : NodeName) (id : RunId) where
+  identified : (words : List LinkWord) (g : Guest) (values : List Frame) (unread not_yet_got bytes : List ℕ) (h : Guest)
+      (replies : List Frame) (held not_yet_come : List ℕ) (events : List Event) (left : List Question)
+      → AllByRecursion (RowIsOne Q) words → AllByRecursion IsAskableWord words → is_stranger g.asker ≡ false → is_listening g.listening ≡ false → g.party.listens ≡ None
+      → spelling id_value ++ flat_map bytes_of words ≡ (flat_map spelling values ++ unread) ++ not_yet_got → AllByRecursion IsFrame values
+      → (served : ServedBeside start g values bytes h) → EachTurn P Q start g values bytes h served
+      → bytes ≡ (flat_map spelling replies ++ held) ++ not_yet_come → AllByRecursion IsLinkValue replies
+      → Tells voter false (Identity id ∷ map question_for words) replies events left
+      → Goes P start asker voter g id words events
+  identified words g values unread not_yet_got bytes h [] held not_yet_come events left rows askable known quiet silent sent whole served turns put_out read tells = inl tells.0
+  identified words g [] unread not_yet_got bytes h (r ∷ rs) held not_yet_come events left rows askable known quiet silent sent whole served turns put_out read tells =
+      absurd (spelled_some r ((flat_map spelling rs ++ held) ++ not_yet_come) (sym served.0 ∙ put_out ∙ by_first r rs held not_yet_come))
+  identified words g (x ∷ xs) unread not_yet_got bytes h (r ∷ rs) held not_yet_come events left rows askable known quiet silent sent whole served turns put_out
+      read tells =
+      let others_sent = flat_map bytes_of words in
+      let value_is = one_spelling id_value x others_sent ((flat_map spelling xs ++ unread) ++ not_yet_got) id_value_whole.plain whole.0.plain
+      (sent ∙ by_first x xs unread not_yet_got) in
+      let next = served.1 in
+      let middle = served.2 in
+      let first = served.3 in
+      let others = served.4 in
+      let later = served.6 in
+      let serves : TellsClient start served.0 next id_value first middle = subst (λ (f : Frame). TellsClient start served.0 next f first middle) (sym value_is.0) served.8 in
+      let reply = id_replied start served.0 next first middle (later.known ∙ known) (ap is_listening later.quiet ∙ quiet) (later.silent ∙ silent) serves in
+      let own = me start.plan in
+      let len = length-id_text own in
+      let plain : IsPlain (id_frame own) = omega (arith, len) in
+      let reply_bytes : spelling (id_frame own) ++ others ≡ spelling r ++ ((flat_map spelling rs ++ held) ++ not_yet_come) =
+      ap (λ (t : List ℕ). t ++ others) (sym reply.0.spelled) ∙ sym served.5 ∙ put_out ∙ by_first r rs held not_yet_come in
+      let reply_is = one_spelling (id_frame own) r others ((flat_map spelling rs ++ held) ++ not_yet_come) plain (value_plain r read.0) reply_bytes in
+      let rest = passed_over voter (Identity id) (map question_for words) r rs events left (identity_tells voter id) tells in
+      let heard_id : heard_of voter (Identity id) (told_value (id_frame own)) ≡ Ok rest.got =
+      ap (λ (f : Frame). heard_of voter (Identity id) (told_value f)) reply_is.0 ∙ rest.heard in
+      let known_then : is_stranger middle.asker ≡ false = ap (λ (g : Guest). is_stranger g.asker) reply.2 ∙ (later.known ∙ known) in
+      let quiet_then : is_listening middle.listening ≡ false = ap (λ (g : Guest). is_listening g.listening) reply.2 ∙ (ap is_listening later.quiet ∙ quiet) in
+      let front : middle.party.view.front ≡ g.party.view.front ++ (later.more ++ reply.0.more) =
+      reply.0.front ∙ (ap (λ (l : List Entry). l ++ reply.0.more) later.front ∙ append_assoc g.party.view.front later.more reply.0.more) in
+      inr (
+        same_run_id voter id own rest.got reply.0.is_id heard_id,
+        reply.0.place,
+        λ (named : voter ≡ SentinelAt start.plan.place).
+            let tells_on = subst (λ (n : NodeName). Tells n false (map question_for words) rs events left) named rest.tells in
+            later_all P start asker g.party.view middle.party.view (later.more ++ reply.0.more) words events front
+            (delivered P Q start asker words middle xs unread not_yet_got others h rs held not_yet_come events left rows askable known_then quiet_then reply.1 value_is.1 whole.1
+            served.9 turns.2 reply_is.1 read.1 tells_on),
+      )
 
 -- ---- from the beginning
 
--- no login
-abbrev Asks : Login → World → RunId → List Body → List Frame → List Event → List Question → Type 0
-Asks login start id questions replies events left =
-    Tells (SentinelAt start.plan.place) false (login_questions login ++ (Identity id ∷ map question_of questions)) replies events left
+-- a connection from its opening on, to whichever node the link takes it to be
+pub record IsLinked (P : List Entry → Type 0) (Q : Frame → List ℕ → Type 0) (start : World) (voter : NodeName) (g : Guest) (login : Login) (id : RunId)
+    (words : List LinkWord) (events : List Event) : Type 0 where
+  pub rows : AllByRecursion (RowIsOne Q) words
+  pub askable : AllByRecursion IsAskableWord words
+  pub known : is_stranger g.asker ≡ false
+  pub quiet : is_listening g.listening ≡ false
+  pub silent : g.party.listens ≡ None
+  pub greeting : List Frame
+  pub greets : IsGreeting login greeting
+  pub got : List ℕ
+  pub not_yet_got : List ℕ
+  pub sent : id_bytes (Some id) ++ flat_map bytes_of words ≡ got ++ not_yet_got
+  pub values : List Frame
+  pub unread : List ℕ
+  pub parts : Parts got values unread
+  pub bytes : List ℕ
+  pub h : Guest
+  pub served : ServedBeside start g values bytes h
+  pub turns : EachTurn P Q start g values bytes h served
+  pub came : List ℕ
+  pub not_yet_come : List ℕ
+  pub put_out : flat_map spelling greeting ++ bytes ≡ came ++ not_yet_come
+  pub replies : List Frame
+  pub held : List ℕ
+  pub read : LinkParts came replies held
+  pub left : List Question
+  pub tells : Tells voter false (login_questions login ++ (id_questions (Some id) ++ map question_for words)) replies events left
 
-without_login : (start : World) (asker : NodeName) (g : Guest) (login : Login) (id : RunId) (questions : List Body) (events : List Event)
-    (c : IsConnectedAnew start g login id questions events) → c.greeting ≡ [] → Asks Without start id questions c.replies events c.left → Goes start asker g id questions events
-without_login start asker g login id questions events c none asks =
-    identified start asker id questions g c.values c.unread c.not_yet_got c.bytes c.h c.replies c.held c.not_yet_come events c.left c.askable c.known c.quiet c.silent
-    (c.sent ∙ ap (λ (t : List ℕ). t ++ c.not_yet_got) c.parts.0) c.parts.1 c.served
-    (ap (λ (l : List Frame). flat_map spelling l ++ c.bytes) (sym none) ∙ (c.put_out ∙ ap (λ (t : List ℕ). t ++ c.not_yet_come) c.read.0)) c.read.1 asks
+module _ (P : List Entry → Type 0) (Q : Frame → List ℕ → Type 0) (start : World) (asker voter : NodeName) (g : Guest) (login : Login) (id : RunId) (words : List LinkWord)
+    (events : List Event) (c : IsLinked P Q start voter g login id words events) where
+  -- no login
+  without_login : c.greeting ≡ [] → Tells voter false (Identity id ∷ map question_for words) c.replies events c.left → Goes P start asker voter g id words events
+  without_login none asks =
+      identified P Q start asker voter id words g c.values c.unread c.not_yet_got c.bytes c.h c.replies c.held c.not_yet_come events c.left c.rows c.askable c.known c.quiet
+      c.silent (c.sent ∙ ap (λ (t : List ℕ). t ++ c.not_yet_got) c.parts.0) c.parts.1 c.served c.turns
+      (ap (λ (l : List Frame). flat_map spelling l ++ c.bytes) (sym none) ∙ (c.put_out ∙ ap (λ (t : List ℕ). t ++ c.not_yet_come) c.read.0)) c.read.1 asks
 
--- a login, answered by one value
-with_login : (start : World) (asker : NodeName) (g : Guest) (login : Login) (id : RunId) (questions : List Body) (events : List Event)
-    (c : IsConnectedAnew start g login id questions events) (answer : Frame) → c.greeting ≡ answer ∷ [] → IsPlain answer → (replies : List Frame) → c.replies ≡ replies
-    → Tells (SentinelAt start.plan.place) false (Order ∷ (Identity id ∷ map question_of questions)) replies events c.left → Goes start asker g id questions events
-with_login start asker g login id questions events c answer one plain [] same asks = nothing_heard start asker g id questions events asks.0
-with_login start asker g login id questions events c answer one plain (r ∷ rs) same asks =
-    let voter = SentinelAt start.plan.place in
-    let read : AllByRecursion IsLinkValue (r ∷ rs) = subst (AllByRecursion IsLinkValue) same c.read.1 in
-    let came : c.came ≡ flat_map spelling (r ∷ rs) ++ c.held = c.read.0 ∙ ap (λ (l : List Frame). flat_map spelling l ++ c.held) same in
-    let greeted : spelling answer ++ c.bytes ≡ flat_map spelling c.greeting ++ c.bytes =
-    ap (λ (t : List ℕ). t ++ c.bytes) (sym (append-nil (spelling answer))) ∙ ap (λ (l : List Frame). flat_map spelling l ++ c.bytes) (sym one) in
-    let whole : spelling answer ++ c.bytes ≡ spelling r ++ ((flat_map spelling rs ++ c.held) ++ c.not_yet_come) =
-    greeted ∙ (c.put_out ∙ (ap (λ (t : List ℕ). t ++ c.not_yet_come) came ∙ by_first r rs c.held c.not_yet_come)) in
-    let greeting_is = one_spelling answer r c.bytes ((flat_map spelling rs ++ c.held) ++ c.not_yet_come) plain (value_plain r read.0) whole in
-    let rest = passed_over voter Order (Identity id ∷ map question_of questions) r rs events c.left (order_tells voter) asks in
-    identified start asker id questions g c.values c.unread c.not_yet_got c.bytes c.h rs c.held c.not_yet_come events c.left c.askable c.known c.quiet c.silent
-    (c.sent ∙ ap (λ (t : List ℕ). t ++ c.not_yet_got) c.parts.0) c.parts.1 c.served greeting_is.1 read.1 rest.tells
+  -- a login, answered by one value
+  with_login : (answer : Frame) → c.greeting ≡ answer ∷ [] → IsPlain answer → (replies : List Frame) → c.replies ≡ replies
+      → Tells voter false (Order ∷ (Identity id ∷ map question_for words)) replies events c.left → Goes P start asker voter g id words events
+  with_login answer one plain [] same asks = inl asks.0
+  with_login answer one plain (r ∷ rs) same asks =
+      let read : AllByRecursion IsLinkValue (r ∷ rs) = subst (AllByRecursion IsLinkValue) same c.read.1 in
+      let came : c.came ≡ flat_map spelling (r ∷ rs) ++ c.held = c.read.0 ∙ ap (λ (l : List Frame). flat_map spelling l ++ c.held) same in
+      let greeted : spelling answer ++ c.bytes ≡ flat_map spelling c.greeting ++ c.bytes =
+      ap (λ (t : List ℕ). t ++ c.bytes) (sym (append-nil (spelling answer))) ∙ ap (λ (l : List Frame). flat_map spelling l ++ c.bytes) (sym one) in
+      let whole : spelling answer ++ c.bytes ≡ spelling r ++ ((flat_map spelling rs ++ c.held) ++ c.not_yet_come) =
+      greeted ∙ (c.put_out ∙ (ap (λ (t : List ℕ). t ++ c.not_yet_come) came ∙ by_first r rs c.held c.not_yet_come)) in
+      let greeting_is = one_spelling answer r c.bytes ((flat_map spelling rs ++ c.held) ++ c.not_yet_come) plain (value_plain r read.0) whole in
+      let rest = passed_over voter Order (Identity id ∷ map question_for words) r rs events c.left (order_tells voter) asks in
+      identified P Q start asker voter id words g c.values c.unread c.not_yet_got c.bytes c.h rs c.held c.not_yet_come events c.left c.rows c.askable c.known c.quiet c.silent
+      (c.sent ∙ ap (λ (t : List ℕ). t ++ c.not_yet_got) c.parts.0) c.parts.1 c.served c.turns greeting_is.1 read.1 rest.tells
+
+pub links_deliver : (P : List Entry → Type 0) (Q : Frame → List ℕ → Type 0) (start : World) (asker voter : NodeName) (g : Guest) (login : Login) (id : RunId)
+    (words : List LinkWord) (events : List Event) → IsLinked P Q start voter g login id words events → Goes P start asker voter g id words events
+links_deliver P Q start asker voter g Without id words events c = without_login P Q start asker voter g Without id words events c c.greets c.tells
+links_deliver P Q start asker voter g (Pass pass) id words events c =
+    with_login P Q start asker voter g (Pass pass) id words events c c.greets.0 c.greets.1 c.greets.2 c.replies refl c.tells
+links_deliver P Q start asker voter g (User user pass) id words events c =
+    with_login P Q start asker voter g (User user pass) id words events c c.greets.0 c.greets.1 c.greets.2 c.replies refl c.tells
+
+-- where nothing but messages was put out
+linked : (start : World) (g : Guest) (login : Login) (id : RunId) (questions : List Body) (events : List Event) → IsConnectedAnew start g login id questions events
+    → IsLinked Whatever Anything start (SentinelAt start.plan.place) g login id (map Says questions) events
+linked start g login id questions events c = record {
+  rows = said_no_row Anything questions;
+  askable = said_askable questions c.askable;
+  known = c.known;
+  quiet = c.quiet;
+  silent = c.silent;
+  greeting = c.greeting;
+  greets = c.greets;
+  got = c.got;
+  not_yet_got = c.not_yet_got;
+  sent = ap (λ (t : List ℕ). id_bytes (Some id) ++ t) (said_bytes questions) ∙ c.sent;
+  values = c.values;
+  unread = c.unread;
+  parts = c.parts;
+  bytes = c.bytes;
+  h = c.h;
+  served = c.served;
+  turns = any_turn start g c.values c.bytes c.h c.served;
+  came = c.came;
+  not_yet_come = c.not_yet_come;
+  put_out = c.put_out;
+  replies = c.replies;
+  held = c.held;
+  read = c.read;
+  left = c.left;
+  tells = subst (λ (l : List Question). Tells (SentinelAt start.plan.place) false (login_questions login ++ (id_questions (Some id) ++ l)) c.replies events c.left)
+      (sym (said_asked questions)) c.tells;
+}
+
+nothing_heard : (start : World) (asker : NodeName) (v : View) (questions : List Body) (events : List Event) → events ≡ [] → AreDelivered start asker v questions events
+nothing_heard start asker v questions events none = subst (λ (l : List Event). AreDelivered start asker v questions l) (sym none) tt
 
 pub new_connections_deliver : NewConnectionsDeliver
-new_connections_deliver start asker g Without id questions events c = without_login start asker g Without id questions events c c.greets c.tells
-new_connections_deliver start asker g (Pass pass) id questions events c =
-    with_login start asker g (Pass pass) id questions events c c.greets.0 c.greets.1 c.greets.2 c.replies refl c.tells
-new_connections_deliver start asker g (User user pass) id questions events c =
-    with_login start asker g (User user pass) id questions events c c.greets.0 c.greets.1 c.greets.2 c.replies refl c.tells
+new_connections_deliver start asker g login id questions events c =
+    let goes = links_deliver Whatever Anything start asker (SentinelAt start.plan.place) g login id (map Says questions) events (linked start g login id questions events c) in
+    ⊎_elim (λ (none : events ≡ []). (nothing_heard start asker g.party.view questions events none, inl none))
+    (λ heard. (only_delivered Whatever start asker g.party.view questions events (heard.2 refl), inr heard.0))
+    goes
 
 -- ---- in pieces
 

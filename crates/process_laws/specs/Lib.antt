@@ -10,3 +10,4 @@ pub mod SharedConnections
 pub mod HeardAnswers
 pub mod Openings
 pub mod OwnActions
+pub mod Connected

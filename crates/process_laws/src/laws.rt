@@ -1,6 +1,7 @@
 //! What holds of all processes of a group together.
 
 ghost use Rattle.process_laws.specs.Actions.{ProcessesAreARun, ProcessesAreSafe};
+ghost use Rattle.process_laws.specs.Connected.{ConnectedProcessesAreSafe};
 ghost use Rattle.process_laws.specs.GroupStarts.{OneGroupIsAStart};
 ghost use Rattle.process_laws.specs.LateAnswers.{LateAnswersHappen};
 ghost use Rattle.process_laws.specs.OwnActions.{OwnActionsAreActions};
@@ -50,4 +51,12 @@ pub fn law_one_group_is_a_start()
 /// long as what is heard was sent before.
 pub fn law_own_actions_are_actions()
     ensures { OwnActionsAreActions }
+{}
+
+/// Processes of a group are what these laws ask, and so safe, where each is given by what it did by itself: its file
+/// opened it, and its history is legal from there. What it took is free, is told by bytes that came on a connection
+/// for what it asked there, or is a hello that was published. TCP changes nothing inside a connection, and all that was
+/// done has one order, in which what is answered or published stands before what is heard of it.
+pub fn law_connected_processes_are_safe()
+    ensures { ConnectedProcessesAreSafe }
 {}

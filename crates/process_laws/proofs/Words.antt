@@ -1,0 +1,154 @@
+-- What goes over a connection besides messages: the question for a row is answered by one value, which tells nothing.
+use Rattle.std.proofs.Common.{◌≡◌, ◌≢◌, ℕ, false, List, [], ◌∷◌, ◌++◌, map, refl, ap, sym, ◌∙◌, subst, arith, append_assoc, Option, Some, None, Ok}
+use Rattle.std.specs.Prelude.{codes}
+use Rattle.std.specs.List.{flat_map, AllByRecursion}
+use Rattle.ballot_law.specs.declared.commands.Command.TheVariants.{Master, Subscribe}
+use Rattle.ballot_law.specs.declared.events.Event.{Event}
+use Rattle.ballot_law.specs.declared.messages.Body.{Body}
+use Rattle.ballot_law.specs.declared.messages.NodeName.{NodeName}
+use Rattle.ballot_law.specs.Names.{IsName}
+use Rattle.client_commands.specs.Courtesies.{is_stranger}
+use Rattle.client_commands.specs.declared.protocols.Protocol.{Protocol}
+use Rattle.client_commands.specs.declared.protocols.Protocol.TheVariants.{Two, Three}
+use Rattle.courteous_sessions.specs.Epochs.{heard}
+use Rattle.courteous_sessions.specs.Visits.{Guest, Tells as TellsClient}
+use Rattle.courteous_sessions.proofs.Keeping.{own_as_before, own_in_three}
+use Rattle.links.specs.declared.sessions.questions.Question.{Question}
+use Rattle.links.specs.declared.sessions.questions.Question.TheVariants.{Order}
+use Rattle.links.specs.Sessions.Links.{question_of, listed, heard_of, Tells}
+use Rattle.links.specs.Sessions.LongValues.{told_value}
+use Rattle.node_texts.specs.Messages.MessageTexts.{message_bytes}
+use Rattle.port_sessions.specs.Talks.{Party, party, Responds}
+use Rattle.pubsub.specs.Listening.{is_listening}
+use Rattle.resp2.specs.Commands.{command_of}
+use Rattle.resp2.specs.Framing.Frame.{Frame, IsFrame}
+use Rattle.resp2.proofs.AskFrames.{short_array}
+use Rattle.resp2.proofs.Switches.{known_too}
+use Rattle.sentinel_cell.specs.declared.entry.Entry.{Entry}
+use Rattle.sentinel_cell.specs.declared.view.View.{View}
+use Rattle.sentinel_cell.specs.Histories.{World}
+use Rattle.process_laws.specs.Connections.{IsAskable}
+use Rattle.process_laws.specs.Connected.{LinkWord, Says, AsksRow, row_frame, bytes_of, question_for, IsAskableWord, IsOneValue}
+use Rattle.process_laws.proofs.Joining.{first_asked, others_asked}
+use Rattle.process_laws.proofs.Turns.{answers, turned}
+
+-- ---- a question whose answer tells nothing
+
+abbrev pub TellsNothing : NodeName → Question → Type 0
+TellsNothing node k = (f : Frame) (got : Option Event) → heard_of node k f ≡ Ok got → got ≡ None
+
+pub order_tells : (node : NodeName) → TellsNothing node Order
+order_tells node f got e = cc
+
+-- the other values tell all that is told
+pub record TellsRest (node : NodeName) (k : Question) (asked : List Question) (r : Frame) (rs : List Frame) (events : List Event) (left : List Question) : Type 0 where
+  pub got : Option Event
+  pub heard : heard_of node k (told_value r) ≡ Ok got
+  pub tells : Tells node false asked rs events left
+
+pub passed_over : (node : NodeName) (k : Question) (asked : List Question) (r : Frame) (rs : List Frame) (events : List Event) (left : List Question) → TellsNothing node k
+    → Tells node false (k ∷ asked) (r ∷ rs) events left → TellsRest node k asked r rs events left
+passed_over node k asked r rs events left nothing tells =
+    let same_question : k ≡ tells.0 = first_asked k tells.0 asked tells.1 tells.4 in
+    let same_others : tells.1 ≡ asked = others_asked k tells.0 asked tells.1 tells.4 in
+    let heard : heard_of node k (told_value r) ≡ Ok tells.2 = ap (λ (q : Question). heard_of node q (told_value r)) same_question ∙ tells.5 in
+    let none : tells.2 ≡ None = nothing (told_value r) tells.2 heard in
+    let all : events ≡ tells.3 = tells.6 ∙ ap (λ (o : Option Event). listed o ++ tells.3) none in
+    let rest : Tells node false asked rs tells.3 left = subst (λ (l : List Question). Tells node false l rs tells.3 left) same_others tells.7 in
+    record { got = tells.2; heard = heard; tells = subst (λ (l : List Event). Tells node false asked rs l left) (sym all) rest }
+
+-- ---- the question for a row
+
+pub row_whole : (name : List ℕ) → IsName name → IsFrame (row_frame name)
+row_whole name is =
+    let few = is.1 in short_array (codes "SENTINEL" ∷ codes "MASTER" ∷ name ∷ []) (omega arith, (omega arith, (omega (arith, few), tt))) (omega arith)
+
+row_read : (name : List ℕ) → (named : Option (List ℕ)) × (command_of (row_frame name) ≡ Ok (Master named))
+row_read name = (_, refl)
+
+-- it is heard as it is
+row_as_it_is : (current : Option ℕ) (named : Option (List ℕ)) → heard current (Master named) ≡ Master named
+row_as_it_is None named = refl
+row_as_it_is (Some epoch) named = refl
+
+no_subscribe : (named : Option (List ℕ)) → Master named ≢ Subscribe
+no_subscribe named e = let no : ⊥ = cc in no
+
+-- what the seat and the connection are after it
+pub record RowReply (g h : Guest) : Type 0 where
+  pub more : List Entry
+  pub front : h.party.view.front ≡ g.party.view.front ++ more
+  pub known : is_stranger h.asker ≡ is_stranger g.asker
+  pub quiet : h.listening ≡ g.listening
+  pub silent : h.party.listens ≡ None
+
+-- its turn
+record RowTurn (v : View) (q : Party) : Type 0 where
+  pub more : List Entry
+  pub front : q.view.front ≡ v.front ++ more
+  pub silent : q.listens ≡ None
+
+row_turn : (start : World) (now : ℕ) (v : View) (current : Option ℕ) (named : Option (List ℕ)) (answer : List ℕ) (q : Party)
+    → Responds start now (party v None) (Ok (heard current (Master named))) answer q → RowTurn v q
+row_turn start now v current named answer q r =
+    let a = answers start now (party v None) (Ok (heard current (Master named))) (Master named) answer q refl (ap Ok (row_as_it_is current named)) r in
+    let t = turned start now v (Master named) answer q.view a.0 in
+    record { more = t.between ++ t.entry ∷ []; front = t.front ∙ append_assoc v.front t.between (t.entry ∷ []); silent = a.1 }
+
+row_by : (protocol : Protocol) (start : World) (now : ℕ) (g h : Guest) (name bytes : List ℕ) → g.asker.protocol ≡ protocol → is_stranger g.asker ≡ false
+    → is_listening g.listening ≡ false → g.party.listens ≡ None → TellsClient start now g (row_frame name) bytes h → RowReply g h
+row_by Two start now g h name bytes speaks known quiet silent tells =
+    let named = (row_read name).0 in
+    let command = Master named in
+    let own = own_as_before start now g h (row_frame name) command bytes speaks known quiet (no_subscribe named)
+    (known_too (row_frame name) command (row_read name).1) tells in
+    let silenced : g.party ≡ party g.party.view None = ap (λ (l : Option ℕ). party g.party.view l) silent in
+    let t = row_turn start now g.party.view g.asker.current named bytes h.party
+    (subst (λ (p : Party). Responds start now p (Ok (heard g.asker.current command)) bytes h.party) silenced own.0) in
+    record {
+      more = t.more;
+      front = t.front;
+      known = ap (λ (x : Guest). is_stranger x.asker) own.1;
+      quiet = ap (λ (x : Guest). x.listening) own.1;
+      silent = t.silent;
+    }
+row_by Three start now g h name bytes speaks known quiet silent tells =
+    let named = (row_read name).0 in
+    let command = Master named in
+    let own = own_in_three start now g h (row_frame name) command bytes speaks known (no_subscribe named)
+    (known_too (row_frame name) command (row_read name).1) tells in
+    let t = row_turn start now g.party.view g.asker.current named own.0 own.1 own.2 in
+    record {
+      more = t.more;
+      front = ap (λ (x : Guest). x.party.view.front) own.4 ∙ t.front;
+      known = ap (λ (x : Guest). is_stranger x.asker) own.4;
+      quiet = ap (λ (x : Guest). x.listening) own.4;
+      silent = ap (λ (x : Guest). x.party.listens) own.4 ∙ silent;
+    }
+
+pub row_replied : (start : World) (now : ℕ) (g h : Guest) (name bytes : List ℕ) → is_stranger g.asker ≡ false
+    → is_listening g.listening ≡ false → g.party.listens ≡ None → TellsClient start now g (row_frame name) bytes h → RowReply g h
+row_replied start now g h name bytes known quiet silent tells = row_by g.asker.protocol start now g h name bytes refl known quiet silent tells
+
+-- by this a row's answer is one value
+abbrev pub RowIsOne : (Q : Frame → List ℕ → Type 0) → LinkWord → Type 0
+RowIsOne Q (Says body) = Unit {0}
+RowIsOne Q (AsksRow name) = (bytes : List ℕ) → Q (row_frame name) bytes → IsOneValue bytes
+
+-- ---- messages alone
+
+pub said_bytes : (questions : List Body) → flat_map bytes_of (map Says questions) ≡ flat_map message_bytes questions
+said_bytes [] = refl
+said_bytes (question ∷ questions) = ap (λ (t : List ℕ). message_bytes question ++ t) (said_bytes questions)
+
+pub said_asked : (questions : List Body) → map question_for (map Says questions) ≡ map question_of questions
+said_asked [] = refl
+said_asked (question ∷ questions) = ap (λ (l : List Question). question_of question ∷ l) (said_asked questions)
+
+pub said_askable : (questions : List Body) → AllByRecursion IsAskable questions → AllByRecursion IsAskableWord (map Says questions)
+said_askable [] askable = tt
+said_askable (question ∷ questions) askable = (askable.0, said_askable questions askable.1)
+
+pub said_no_row : (Q : Frame → List ℕ → Type 0) (questions : List Body) → AllByRecursion (RowIsOne Q) (map Says questions)
+said_no_row Q [] = tt
+said_no_row Q (question ∷ questions) = (tt, said_no_row Q questions)
