@@ -1,11 +1,12 @@
 //! One Sentinel of its own, which watches Redis servers and speaks to the other Sentinels over TCP.
 
-ghost use Rattle.std.specs.Prelude.{◌≡◌, ◌≢◌, ◌<◌, ◌≤◌, ◌+◌, ◌-◌, ◌^◌, IfErr, IfOk, IfSome, Ok, OnOk, length};
+ghost use Rattle.std.specs.Prelude.{◌≡◌, ◌≢◌, ◌<◌, ◌≤◌, ◌+◌, ◌-◌, ◌^◌, ℕ, IfErr, IfOk, IfSome, Ok, OnOk, length};
 ghost use Rattle.ballot_law.specs.declared.messages.Message.{Message};
+ghost use Rattle.ballot_law.specs.declared.messages.Note.{Note};
 ghost use Rattle.sentinel_conf.specs.Reading.{conf_of_bytes};
 ghost use Rattle.sentinel_conf.specs.Rewritten.{rewritten};
 ghost use Rattle.sentinel_runner.specs.Opening.{IsOpenedAnew};
-ghost use Rattle.sentinel_runtime.specs.Saying.{IsReleased};
+ghost use Rattle.sentinel_runtime.specs.Saying.{IsNoted, IsReleased};
 ghost use Rattle.sentinel_runner.specs.declared.group_fault.GroupFault.TheVariants.{NotOneRoster};
 ghost use Rattle.sentinel_runner.specs.declared.opened.TheConstants.{PORT_THREADS_MAX};
 ghost use Rattle.sentinel_runner.specs.declared.watch.TheConstants.{BESIDE};
@@ -287,6 +288,7 @@ where
     R: Threads + Wait + Clock + ReadsTimes + Log + Sync,
     requires named { watching.opened.cell.id ≡ J.cell }
     requires says { (message : Message) → IsReleased watching.opened.cell.start message → ∥ J.said message ∥₁ }
+    requires notes { (note : Note) (number : ℕ) → IsNoted watching.opened.cell.start note number → ∥ J.noted note number ∥₁ }
 {
     let Watching { opened, alloc } = watching;
     let Opened {
