@@ -92,7 +92,6 @@ pub(crate) struct Clients {
     next_id: u64,
     terms: Terms,
     roll: Roll,
-    told: Vec<News>,
     untold: usize,
     alloc: Global,
     ghost few: { slab_len connections ≤ room.each },
@@ -151,7 +150,6 @@ impl Clients {
             next_id: u64::from(thread) + 1,
             terms: terms_of(alloc, admission)?,
             roll: Roll::new(alloc, room.courteous(), most_of(room, admission)),
-            told: Vec::new(alloc),
             untold: 0,
             alloc,
         })
@@ -524,7 +522,12 @@ impl Clients {
 
     /// Tells one connection of what happened, and closes it where it has no memory for that.
     #[tactic(auto, using(crate::proofs::Keeping::kept_few, crate::proofs::Keeping::others_kept, crate::proofs::Keeping::others_closed))]
-    fn tell_one<J: Which, S: ConfStore>(&mut self, member: &RunningSentinel<J, S>, key: usize)
+    fn tell_one<J: Which, S: ConfStore>(
+        &mut self,
+        member: &RunningSentinel<J, S>,
+        told: &[News<J>],
+        key: usize,
+    )
         ensures others { (other : ℕ) → other ≢ key → get self.new.connections other ≡ get self.old.connections other }
     {
         let Some(connection) = self.connections.get_mut(key) else {
@@ -533,7 +536,7 @@ impl Clients {
         if !connection.listens() {
             return;
         }
-        if !connection.tell(member, self.told.as_slice()) {
+        if !connection.tell(member, told) {
             return self.close(key);
         }
         self.waiting.listeners.join(key);
@@ -543,12 +546,16 @@ impl Clients {
 
     /// Tells the next `TOLD_AT_ONCE` of the subscribers that aren't told yet of what happened. Those that listen no
     /// more leave the line.
-    fn tell_next<J: Which, S: ConfStore>(&mut self, member: &RunningSentinel<J, S>) {
+    fn tell_next<J: Which, S: ConfStore>(
+        &mut self,
+        member: &RunningSentinel<J, S>,
+        told: &[News<J>],
+    ) {
         let count = self.untold.min(TOLD_AT_ONCE);
         self.untold -= count;
         for _ in 0..count {
             if let Some(key) = self.waiting.listeners.next() {
-                self.tell_one(member, key);
+                self.tell_one(member, told, key);
                 self.rest_first();
             }
         }
@@ -569,24 +576,31 @@ impl Clients {
         }
     }
 
+    /// Nothing that happened yet.
+    pub(crate) fn no_news<J: Which>(&self) -> Vec<News<J>> {
+        Vec::new(self.alloc)
+    }
+
     /// Tells the subscribers of each new address and, where connections have courtesies, of each other event that a
     /// thread of the Sentinel showed since the last turn of the port's thread with this number, which has them, in the
     /// order in which they came. Where there are many, some are told in this turn and the others in the next ones, so
-    /// that no other client waits until all are; what happens meanwhile they are told after that.
+    /// that no other client waits until all are; what happens meanwhile they are told after that. `told` has what is
+    /// told until all are.
     pub(crate) fn tell_news<J: Which, S: ConfStore, R: Wait>(
         &mut self,
         rt: &R,
         member: &RunningSentinel<J, S>,
         thread: u16,
+        told: &mut Vec<News<J>>,
     ) {
         if self.untold == 0 {
-            self.told = member.take_news(rt, thread);
-            if self.told.is_empty() {
+            *told = member.take_news(rt, thread);
+            if told.is_empty() {
                 return;
             }
             self.untold = self.waiting.listeners.len();
         }
-        self.tell_next(member);
+        self.tell_next(member, told.as_slice());
     }
 
     /// Whether the connections have courtesies.

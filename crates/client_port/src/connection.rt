@@ -259,7 +259,7 @@ impl<T: Read + Write + Drop> Connection<T> {
     fn add_news<J: Which, S: ConfStore>(
         &mut self,
         member: &RunningSentinel<J, S>,
-        news: &News,
+        news: &News<J>,
     ) -> Result<bool, NoMemory> {
         match news {
             News::Switch(switch) => member.notify(&mut self.session, switch),
@@ -274,7 +274,7 @@ impl<T: Read + Write + Drop> Connection<T> {
     pub(crate) fn tell<J: Which, S: ConfStore>(
         &mut self,
         member: &RunningSentinel<J, S>,
-        news: &[News],
+        news: &[News<J>],
     ) -> bool {
         let mut is_told = false;
         for one in news {

@@ -148,6 +148,7 @@ impl Port {
         self.clients.hand_waker(rt, member, self.thread);
         self.clients.serve_for(member);
         let log = member.noting(rt);
+        let mut told = self.clients.no_news();
         for _ in rt.forever() {
             if ending.load(Ordering::SeqCst) != 0 || member.is_closed(state) {
                 return Ok(());
@@ -163,7 +164,7 @@ impl Port {
             self.clients.send_events(&self.events);
             self.clients.serve_busy(rt, state, member, seat, ending);
             self.clients.close_killed();
-            self.clients.tell_news(rt, member, self.thread);
+            self.clients.tell_news(rt, member, self.thread, &mut told);
             self.look_at_silent(rt, state);
         }
         unreachable!()

@@ -4,7 +4,7 @@ ghost use Rattle.std.specs.Prelude.{◌≡◌, ◌<◌, ◌-◌, ◌^◌, All, I
 
 use crate::conf_paths::ConfPath;
 use crate::failures::{fail, refuse_conf, refuse_file, refuse_with_reason};
-use crate::noted_store::NotedStore;
+use crate::noted_store::{NotedFile, NotedStore};
 use log::Log;
 use sentinel_conf::{Conf, ConfStore, FileFault, FileStep, FileStore, FileText, LoadFault, read};
 use sentinel_core::ServeFault;
@@ -16,7 +16,7 @@ use std::process::ExitCode;
 #[derive(Drop)]
 pub(crate) struct GroupFiles<'a, R: Log> {
     pub(crate) confs: Vec<Conf>,
-    pub(crate) stores: Vec<NotedStore<'a, R>>,
+    pub(crate) stores: Vec<NotedFile<'a, R>>,
 }
 
 /// Why a file isn't opened.
@@ -42,12 +42,12 @@ pub(crate) fn text_at(rt: HostRuntime, path: &str) -> Result<FileText, ExitCode>
     }
 }
 
-/// The file at the path as a store, and its text, which the disk holds.
-pub(crate) fn opened(
+/// The file at the path as a store, which is not loaded yet.
+pub(crate) fn store_at(
     rt: HostRuntime,
     path: &ConfPath<'_>,
-) -> Result<(FileText, FileStore<HostRuntime>), Unopened>
-    ensures { IfOk result (λ r. r.1 ≡ 0) }
+) -> Result<FileStore<HostRuntime>, Unopened>
+    ensures { IfOk result (λ store. store ≡ 0) }
 {
     let own = match path.own() {
         Ok(own) => own,
@@ -56,9 +56,20 @@ pub(crate) fn opened(
             return Err(Unopened::Failed(FileFault { step, error }));
         }
     };
-    let Ok(mut store) = FileStore::at(rt, rt.alloc(), own) else {
-        return Err(Unopened::NoMemory);
-    };
+    match FileStore::at(rt, rt.alloc(), own) {
+        Ok(store) => Ok(store),
+        Err(_) => Err(Unopened::NoMemory),
+    }
+}
+
+/// The file at the path as a store, and its text, which the disk holds.
+fn opened(
+    rt: HostRuntime,
+    path: &ConfPath<'_>,
+) -> Result<(FileText, FileStore<HostRuntime>), Unopened>
+    ensures { IfOk result (λ r. r.1 ≡ 0) }
+{
+    let mut store = store_at(rt, path)?;
     match store.load() {
         Ok(text) => Ok((text, store)),
         Err(LoadFault::NoMemory) => Err(Unopened::NoMemory),
@@ -124,7 +135,7 @@ fn noted_file_of<'a, R: Log>(
     rt: HostRuntime,
     noting: &'a R,
     path: &ConfPath<'_>,
-) -> Result<(Conf, NotedStore<'a, R>), ExitCode>
+) -> Result<(Conf, NotedFile<'a, R>), ExitCode>
     ensures { IfOk result (λ r. r.1 ≡ 0) }
 {
     let (conf, store) = file_of(rt, path)?;

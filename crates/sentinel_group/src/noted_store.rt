@@ -1,40 +1,54 @@
 //! The file of a Sentinel that runs, with a note where it can't be stored or loaded.
 
-ghost use Rattle.std.specs.Prelude.{◌≡◌, IfOk};
+ghost use Rattle.std.specs.Prelude.{◌≡◌, ◌≢◌, ◌↔◌, IfOk, IsSome};
 
 use log::{Level, Log, log_enabled, warn};
 use sentinel_conf::{ConfStore, FileFault, FileStep, FileStore, FileText, LoadFault, StoreRefused};
 use std::alloc::AllocError;
 use std::marker::Model;
 
-/// The file of the Sentinel with this port. Each store that is refused gets a note: which Sentinel, which file, what
-/// failed, and the system's reason; so does a load that fails, as at a start by order. Contracts see how many calls
-/// have failed.
+/// A store that tells why its calls failed.
+pub(crate) trait TellsFault: ConfStore {
+    /// Why the last of the calls that failed did. None where none has failed.
+    fn fault(&self) -> Option<FileFault>
+        ensures { IsSome result ↔ (Self.failure_count self.now ≢ 0) };
+}
+
+impl TellsFault for FileStore<HostRuntime> {
+    fn fault(&self) -> Option<FileFault> {
+        self.last_fault()
+    }
+}
+
+/// The file of the Sentinel with this port, as a store. Each text that is refused gets a note: which Sentinel, which
+/// file, what failed, and the system's reason; so does a load that fails, as at a start by order. Contracts see the
+/// store without its notes.
 #[derive(Drop)]
-pub(crate) struct NotedStore<'a, R: Log> {
-    store: FileStore<HostRuntime>,
+pub(crate) struct NotedStore<'a, S: TellsFault, R: Log> {
+    store: S,
     noting: &'a R,
     port: u16,
     path: String,
 }
 
-impl<'a, R: Log> Model for NotedStore<'a, R> {
-    ghost use Rattle.std.specs.Prelude.{ℕ};
+/// The file of a Sentinel on the disk, with its notes.
+pub(crate) type NotedFile<'a, R> = NotedStore<'a, FileStore<HostRuntime>, R>;
 
-    ghost Value = { ℕ };
+impl<'a, S: TellsFault, R: Log> Model for NotedStore<'a, S, R> {
+    ghost Value = { S };
 
     ghost view = { λ noted. noted.store };
 }
 
-impl<'a, R: Log> NotedStore<'a, R> {
+impl<'a, S: TellsFault + Drop, R: Log> NotedStore<'a, S, R> {
     /// This store of the file at the path, whose notes go to the log of `noting`.
     pub(crate) fn of(
         rt: HostRuntime,
         noting: &'a R,
-        store: FileStore<HostRuntime>,
+        store: S,
         port: u16,
         path: &str,
-    ) -> Result<NotedStore<'a, R>, AllocError>
+    ) -> Result<NotedStore<'a, S, R>, AllocError>
         ensures { IfOk result (λ noted. noted ≡ store) }
     {
         Ok(NotedStore {
@@ -50,7 +64,7 @@ impl<'a, R: Log> NotedStore<'a, R> {
         if !log_enabled!(self.noting; Level::Warn) {
             return;
         }
-        let Some(FileFault { step, error }) = self.store.last_fault() else {
+        let Some(FileFault { step, error }) = self.store.fault() else {
             return;
         };
         let noting = self.noting.span("sentinel").with("port", self.port);
@@ -66,7 +80,7 @@ impl<'a, R: Log> NotedStore<'a, R> {
 
     /// Notes that the file isn't loaded, and why.
     fn note_unloaded(&self) {
-        let Some(FileFault { step, error }) = self.store.last_fault() else {
+        let Some(FileFault { step, error }) = self.store.fault() else {
             return;
         };
         let noting = self.noting.span("sentinel").with("port", self.port);
@@ -79,8 +93,10 @@ impl<'a, R: Log> NotedStore<'a, R> {
     }
 }
 
-impl<R: Log> ConfStore for NotedStore<'_, R> {
-    ghost failure_count = { λ noted. noted };
+impl<S: TellsFault + Drop, R: Log> ConfStore for NotedStore<'_, S, R> {
+    ghost held = { λ noted. S.held noted };
+
+    ghost failure_count = { λ noted. S.failure_count noted };
 
     fn load(&mut self) -> Result<FileText, LoadFault> {
         let loaded = self.store.load();

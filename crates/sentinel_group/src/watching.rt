@@ -1,17 +1,19 @@
 //! `watch`: one Sentinel that watches Redis servers.
 
-ghost use Rattle.std.specs.Prelude.{◌≡◌, ◌<◌, ◌-◌, ◌^◌, [], IfOk};
+ghost use Rattle.std.specs.Prelude.{◌≡◌, ◌≢◌, [], Ok, IfOk, IfSome};
+ghost use Rattle.sentinel_conf.specs.Reading.{conf_of_bytes};
 ghost use Rattle.sentinel_conf.specs.Meaning.{last};
 ghost use Rattle.sentinel_conf.specs.Watch.WatchConfs.{watch_settings};
 ghost use Rattle.sentinel_conf.specs.Watch.WatchLines.{own_pass_of};
 ghost use Rattle.sentinel_runner.specs.Opening.{reboots_in};
+ghost use Rattle.sentinel_runner.specs.declared.loaded_conf.Unloaded.TheVariants.{Unreadable};
 
 use crate::command_line::port_threads_of;
 use crate::conf_paths::ConfPath;
 use crate::failures::{fail, fail_group, refuse_conf, refuse_file, status_of_group};
-use crate::group_files::{opened, refuse_unopened_by_reason};
+use crate::group_files::{Unopened, refuse_unopened_by_reason, store_at};
 use crate::locks::{FileLock, lock_file, refuse_lock};
-use crate::noted_store::NotedStore;
+use crate::noted_store::{NotedFile, NotedStore, TellsFault};
 use crate::ready_files::ReadyFile;
 use crate::starting::note_sentinel;
 use crate::telling::{note_watch, tell_faults, tell_watch};
@@ -19,12 +21,12 @@ use ballot_law::Text;
 use clap::ArgMatches;
 use client_port::{Admission, PortAddress, ReadsTimes};
 use log::{LevelFilter, Log, info};
-use sentinel_conf::{
-    Conf, ConfStore, FileText, WatchConf, WatchFault, WatchKind, read, read_watch,
-};
+use sentinel_conf::{Conf, ConfStore, WatchConf, WatchFault, WatchKind, read_watch};
 use sentinel_core::ServeFault;
 use sentinel_rules::Profile;
-use sentinel_runner::{GroupFault, PortSettings, Watch, WatchSettings, reboots_of};
+use sentinel_runner::{
+    GroupFault, LoadedConf, PortSettings, Unloaded, Watch, WatchSettings, reboots_of,
+};
 use std::alloc::{AllocError, Global};
 use std::net::{Ipv4Addr, Net, SocketAddr};
 use std::process::ExitCode;
@@ -44,10 +46,8 @@ pub(crate) enum Unwatched {
 
 /// What a file makes of a Sentinel of its own.
 #[derive(Drop)]
-struct WatchFile<'a, R: Log> {
-    conf: Conf,
-    text: FileText,
-    store: NotedStore<'a, R>,
+struct WatchFile<S: ConfStore> {
+    loaded: LoadedConf<S>,
     settings: WatchSettings,
 }
 
@@ -172,39 +172,77 @@ fn settings_of(
     }
 }
 
-/// The file at the path, as a store whose notes go to the log of `noting`. One that is refused is told, with all that
-/// is wrong with it, and the status tells it too.
+/// Tells why what a store at the path holds isn't had as a conf, with all that is wrong with its text, and the status
+/// tells it too.
+fn refuse_unloaded<S: TellsFault + Drop>(rt: HostRuntime, path: &str, why: Unloaded<S>) -> ExitCode
+    requires { (store : S) → why ≡ Unreadable store → S.failure_count store ≢ 0 }
+{
+    match why {
+        Unloaded::NoMemory => refuse_unopened_by_reason(rt, path, Unopened::NoMemory),
+        Unloaded::Unreadable(store) => match store.fault() {
+            Some(fault) => refuse_unopened_by_reason(rt, path, Unopened::Failed(fault)),
+            None => unreachable!(),
+        },
+        Unloaded::Refused(text, fault) => {
+            let status = refuse_conf(&rt, path, fault);
+            tell_faults(rt, path, text.as_slice());
+            status
+        }
+    }
+}
+
+/// A store that was loaded, as one whose notes name the file at the path and go to the log of `noting`.
+fn with_notes<'a, S: TellsFault + Drop, R: Log>(
+    rt: HostRuntime,
+    noting: &'a R,
+    path: &str,
+    loaded: LoadedConf<S>,
+) -> Result<LoadedConf<NotedStore<'a, S, R>>, AllocError>
+    ensures { IfOk result (λ noted. (noted.conf ≡ loaded.conf) × (noted.store ≡ loaded.store)) }
+{
+    let (conf, text, store) = loaded.into_parts();
+    let store = NotedStore::of(rt, noting, store, conf.port(), path)?;
+    Ok(LoadedConf::of(conf, text, store))
+}
+
+/// What this store at the path holds makes of a Sentinel; the store's notes go to the log of `noting`. A text that is
+/// refused is told, with all that is wrong with it, and the status tells it too.
+fn file_in<'a, S: TellsFault + Drop, R: Log>(
+    rt: HostRuntime,
+    noting: &'a R,
+    path: &str,
+    store: S,
+    port: PortSettings,
+) -> Result<WatchFile<NotedStore<'a, S, R>>, ExitCode>
+    requires { S.failure_count store ≡ 0 }
+    ensures held { IfOk result (λ file. S.held file.loaded.store ≡ S.held store) }
+    ensures text { IfOk result (λ file. IfSome (S.held store) (λ bytes. conf_of_bytes bytes ≡ Ok file.loaded.conf)) }
+    ensures store { IfOk result (λ file. S.failure_count file.loaded.store ≡ 0) }
+{
+    let loaded = match LoadedConf::load(rt.alloc(), store) {
+        Ok(loaded) => loaded,
+        Err(why) => return Err(refuse_unloaded(rt, path, why)),
+    };
+    let settings = settings_of(rt, path, loaded.conf(), loaded.text(), port)?;
+    match with_notes(rt, noting, path, loaded) {
+        Ok(loaded) => Ok(WatchFile { loaded, settings }),
+        Err(_) => Err(fail(&rt, ServeFault::NoMemory)),
+    }
+}
+
+/// What the file at the path makes of a Sentinel; its notes go to the log of `noting`. One that is refused is told,
+/// with all that is wrong with it, and the status tells it too.
 fn watch_file<'a, R: Log>(
     rt: HostRuntime,
     noting: &'a R,
     path: &ConfPath<'_>,
     port: PortSettings,
-) -> Result<WatchFile<'a, R>, ExitCode>
-    ensures { IfOk result (λ file. file.store ≡ 0) }
+) -> Result<WatchFile<NotedFile<'a, R>>, ExitCode>
+    ensures { IfOk result (λ file. file.loaded.store ≡ 0) }
 {
-    let opened = opened(rt, path);
-    let path = path.named();
-    let (text, store) = match opened {
-        Ok(opened) => opened,
-        Err(why) => return Err(refuse_unopened_by_reason(rt, path, why)),
-    };
-    let conf = match read(rt.alloc(), text.as_slice()) {
-        Ok(conf) => conf,
-        Err(fault) => {
-            let status = refuse_conf(&rt, path, fault);
-            tell_faults(rt, path, text.as_slice());
-            return Err(status);
-        }
-    };
-    let settings = settings_of(rt, path, &conf, text.as_slice(), port)?;
-    match NotedStore::of(rt, noting, store, conf.port(), path) {
-        Ok(store) => Ok(WatchFile {
-            conf,
-            text,
-            store,
-            settings,
-        }),
-        Err(_) => Err(fail(&rt, ServeFault::NoMemory)),
+    match store_at(rt, path) {
+        Ok(store) => file_in(rt, noting, path.named(), store, port),
+        Err(why) => Err(refuse_unopened_by_reason(rt, path.named(), why)),
     }
 }
 
@@ -213,8 +251,8 @@ fn locked_file<'a, R: Log>(
     rt: HostRuntime,
     noting: &'a R,
     words: &ArgMatches,
-) -> Result<(WatchFile<'a, R>, FileLock), ExitCode>
-    ensures { IfOk result (λ locked. locked.0.store ≡ 0) }
+) -> Result<(WatchFile<NotedFile<'a, R>>, FileLock), ExitCode>
+    ensures { IfOk result (λ locked. locked.0.loaded.store ≡ 0) }
 {
     let Ok(path) = ConfPath::of(rt, words.get_str("conf").unwrap_or("")) else {
         return Err(fail(&rt, ServeFault::NoMemory));
@@ -269,19 +307,14 @@ where
         Ok(locked) => locked,
         Err(status) => return Err(Unwatched::Refused(status)),
     };
-    let WatchFile {
-        conf,
-        text,
-        store,
-        settings,
-    } = file;
+    let WatchFile { loaded, settings } = file;
     let path = words.get_str("conf").unwrap_or("");
-    note_begin(rt, noting, path, &conf, text.as_slice());
+    note_begin(rt, noting, path, loaded.conf(), loaded.text());
     let ready = match ReadyFile::cleared(rt, noting, words.get_str("ready-file")) {
         Ok(ready) => ready,
         Err(status) => return Err(Unwatched::Refused(status)),
     };
-    let ended = match Watch::open(noting, rt.alloc(), conf, store, settings) {
+    let ended = match Watch::open(noting, rt.alloc(), loaded, settings) {
         Ok(watch) => run_ready(rt, noting, watch, ready),
         Err(fault) => Err(Unwatched::Fault(fault)),
     };

@@ -1,9 +1,11 @@
 -- A Sentinel that is opened begins its history at the world of its conf.
-use Rattle.std.proofs.Common.{◌≡◌, ◌<◌, ℕ, List, refl, sym, subst}
-use Rattle.std.specs.Prelude.{Option, IfSome}
+use Rattle.std.proofs.Common.{◌≡◌, ◌∙◌, ◌<◌, ℕ, List, ap, refl, sym, subst}
+use Rattle.std.specs.Prelude.{Option, None, Some, Result, Ok, IfSome}
 use Rattle.sentinel_cell.specs.declared.keeper.Keeper.{Keeper}
 use Rattle.sentinel_cell.specs.Histories.{World, opened}
 use Rattle.sentinel_conf.specs.Meaning.{ConfPlan}
+use Rattle.conf_lines.specs.declared.faults.ConfFault.{ConfFault}
+use Rattle.sentinel_conf.specs.Reading.{conf_of_bytes}
 use Rattle.sentinel_conf.specs.Rewritten.{rewritten}
 use Rattle.sentinel_rules.specs.declared.profiles.Profile.{Profile}
 use Rattle.sentinel_rules.specs.Plans.{group_size, me}
@@ -38,3 +40,11 @@ opens_anew conf profile reboots now text start opens written = record { text = t
 pub opens_as : (conf : ConfPlan) (room profile : Profile) (reboots : List ℕ) (now : ℕ) (start : World) → room ≡ profile
     → IsOpenedAnew conf room reboots now start → IsOpenedAnew conf profile reboots now start
 opens_as conf room profile reboots now start same opens = subst (λ (p : Profile). IsOpenedAnew conf p reboots now start) same opens
+
+-- of the conf that its store's text means, where the store knows its text
+pub opens_held : (held : Option (List ℕ)) (text : List ℕ) (conf given : ConfPlan) (profile : Profile) (reboots : List ℕ) (start : World)
+    → conf_of_bytes text ≡ Ok conf → IfSome held (λ bytes. text ≡ bytes) → given ≡ conf → IsOpenedAnew given profile reboots 0 start
+    → IfSome held (λ bytes. conf_of_bytes bytes ≡ Ok start.plan.conf)
+opens_held None text conf given profile reboots start reads holds is opens = tt
+opens_held (Some bytes) text conf given profile reboots start reads holds is opens =
+    ap conf_of_bytes (sym holds) ∙ (reads ∙ ap (λ (c : ConfPlan). Ok c) (sym (opens.opens.conf_is ∙ is)))

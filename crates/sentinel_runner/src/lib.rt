@@ -5,6 +5,7 @@
 mod group;
 mod group_fault;
 mod line_reader;
+mod loaded_conf;
 mod log_queue;
 mod node_parts;
 mod opened;
@@ -19,6 +20,7 @@ mod watch;
 
 pub use group::{Group, run_group};
 pub use group_fault::{GroupFault, OrderedFault};
+pub use loaded_conf::{LoadedConf, Unloaded};
 pub use log_queue::{NoteForm, NoteQueue, NoteWriter, WAITING_MAX};
 pub use node_parts::{ServesNodes, WithPorts, WithoutPorts};
 pub use opened::{PORT_THREADS_MAX, PortSettings};

@@ -1,8 +1,9 @@
 //! A Sentinel of a group in one process, and its threads.
 
-ghost use Rattle.std.specs.Prelude.{◌≡◌, ◌≢◌, ◌<◌, ◌+◌, ◌-◌, ◌^◌, IfErr, IfOk, length};
+ghost use Rattle.std.specs.Prelude.{◌≡◌, ◌≢◌, ◌<◌, ◌+◌, ◌-◌, ◌^◌, ℕ, IfErr, IfOk, length};
 ghost use Rattle.ballot_law.specs.declared.messages.Message.{Message};
-ghost use Rattle.sentinel_runtime.specs.Saying.{IsReleased};
+ghost use Rattle.ballot_law.specs.declared.messages.Note.{Note};
+ghost use Rattle.sentinel_runtime.specs.Saying.{IsNoted, IsReleased};
 ghost use Rattle.sentinel_runner.specs.declared.started.TheConstants.{BESIDE};
 ghost use Rattle.sentinel_runner.specs.declared.group_fault.GroupFault.TheVariants.{NotOneRoster};
 
@@ -237,6 +238,7 @@ where
     R: Threads + Wait + Clock + ReadsTimes + Log + Sync,
     requires named { opened.cell.id ≡ J.cell }
     requires says { (message : Message) → IsReleased opened.cell.start message → ∥ J.said message ∥₁ }
+    requires notes { (note : Note) (number : ℕ) → IsNoted opened.cell.start note number → ∥ J.noted note number ∥₁ }
     requires seats { opened.beside ≡ BESIDE }
 {
     let Opened {

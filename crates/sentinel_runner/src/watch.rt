@@ -1,16 +1,19 @@
 //! One Sentinel of its own, which watches Redis servers and speaks to the other Sentinels over TCP.
 
-ghost use Rattle.std.specs.Prelude.{◌≡◌, ◌≢◌, ◌<◌, ◌≤◌, ◌+◌, ◌-◌, ◌^◌, IfErr, IfOk, IfSome, OnOk, length};
+ghost use Rattle.std.specs.Prelude.{◌≡◌, ◌≢◌, ◌<◌, ◌≤◌, ◌+◌, ◌-◌, ◌^◌, ℕ, IfErr, IfOk, IfSome, Ok, OnOk, length};
 ghost use Rattle.ballot_law.specs.declared.messages.Message.{Message};
+ghost use Rattle.ballot_law.specs.declared.messages.Note.{Note};
+ghost use Rattle.sentinel_conf.specs.Reading.{conf_of_bytes};
 ghost use Rattle.sentinel_conf.specs.Rewritten.{rewritten};
 ghost use Rattle.sentinel_runner.specs.Opening.{IsOpenedAnew};
-ghost use Rattle.sentinel_runtime.specs.Saying.{IsReleased};
+ghost use Rattle.sentinel_runtime.specs.Saying.{IsNoted, IsReleased};
 ghost use Rattle.sentinel_runner.specs.declared.group_fault.GroupFault.TheVariants.{NotOneRoster};
 ghost use Rattle.sentinel_runner.specs.declared.opened.TheConstants.{PORT_THREADS_MAX};
 ghost use Rattle.sentinel_runner.specs.declared.watch.TheConstants.{BESIDE};
 
 use crate::group::outcome;
 use crate::group_fault::GroupFault;
+use crate::loaded_conf::LoadedConf;
 use crate::opened::{Opened, OpenedWith, PortSettings, fault_of};
 use crate::port_parts::{PortPart, ServesPort, end_for_want, note_lost, parts_of, serve_parts};
 use client_port::{Admission, Port, PortAddress, PortRoom, ReadsTimes, Sockets, seats_beside};
@@ -200,8 +203,9 @@ fn opened_of<S: ConfStore + Drop>(
 }
 
 impl<S: ConfStore + Drop> Watch<S> {
-    /// Opens the Sentinel of this conf at clock 0, and its port; no connection is opened yet. What the conf keeps is
-    /// stored once its port is had, which is served after that: where the port can't be had the store is as it was.
+    /// Opens the Sentinel of the conf that its store held at clock 0, and its port; no connection is opened yet. What the
+    /// conf keeps is stored once its port is had, which is served after that: where the port can't be had the store is
+    /// as it was.
     ///
     /// `Halted` where the store refuses that, `PortRefused` where a port can't be had, or would have to want a password
     /// of clients by a strict profile, which asks nobody for one, and `NoMemory`: `NotOneRoster` never comes.
@@ -209,12 +213,13 @@ impl<S: ConfStore + Drop> Watch<S> {
     pub fn open<R: Net + Clock + Log>(
         rt: &R,
         alloc: Global,
-        conf: Conf,
-        store: S,
+        loaded: LoadedConf<S>,
         settings: WatchSettings,
     ) -> Result<Watch<S>, GroupFault>
-        requires { S.failure_count store < 2 ^ 64 - 1 }
-        ensures start { IfOk result (λ watch. IsOpenedAnew conf settings.port.profile settings.reboots.items 0
+        requires { S.failure_count loaded.store < 2 ^ 64 - 1 }
+        ensures held { IfOk result (λ watch. IfSome (S.held loaded.store)
+            (λ bytes. conf_of_bytes bytes ≡ Ok watch.watching.opened.cell.start.plan.conf)) }
+        ensures start { IfOk result (λ watch. IsOpenedAnew loaded.conf settings.port.profile settings.reboots.items 0
             watch.watching.opened.cell.start) }
         ensures roster { IfErr result (λ fault. fault ≢ NotOneRoster) }
     {
@@ -225,6 +230,7 @@ impl<S: ConfStore + Drop> Watch<S> {
             logins,
             reboots,
         } = settings;
+        let (conf, _, store) = loaded.into_parts();
         let wires = wires_of(rt, alloc, &conf, logins)?;
         let room = room_of(rt, alloc, &conf, port, &admission)?;
         let wanted = admission.limit;
@@ -282,6 +288,7 @@ where
     R: Threads + Wait + Clock + ReadsTimes + Log + Sync,
     requires named { watching.opened.cell.id ≡ J.cell }
     requires says { (message : Message) → IsReleased watching.opened.cell.start message → ∥ J.said message ∥₁ }
+    requires notes { (note : Note) (number : ℕ) → IsNoted watching.opened.cell.start note number → ∥ J.noted note number ∥₁ }
 {
     let Watching { opened, alloc } = watching;
     let Opened {

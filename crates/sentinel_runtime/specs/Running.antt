@@ -2,6 +2,7 @@
 use Rattle.std.specs.Prelude.{ℕ, ◌*◌, ◌/◌, max, Bool, true, false, List, Option, Some, None}
 use Rattle.ballot_law.specs.declared.events.Event.{Event}
 use Rattle.ballot_law.specs.declared.events.Input.{Input}
+use Rattle.ballot_law.specs.declared.messages.Note.{Note}
 use Rattle.ballot_law.specs.declared.messages.Output.{Output}
 use Rattle.ballot_law.specs.declared.messages.Output.TheVariants.{Send, Tell}
 use Rattle.sentinel_cell.specs.declared.entry.Entry.{Entry}
@@ -9,7 +10,6 @@ use Rattle.sentinel_cell.specs.declared.keeper.Keeper.{Keeper}
 use Rattle.sentinel_cell.specs.Histories.{World, IsLegal, IsLeft, replay}
 use Rattle.sentinel_runtime.specs.declared.run_state.RunFault.{RunFault}
 use Rattle.sentinel_runtime.specs.declared.run_state.RunFault.TheVariants.{LackedThread, LostPort, Halted}
-use Rattle.sentinel_runtime.specs.declared.switches.Switch.{Switch}
 use Rattle.sentinel_runtime.specs.declared.ticking.TheConstants.{TICK_MS}
 
 -- an event at a reading of the clock
@@ -20,10 +20,10 @@ input_of now event = record { now = now; event = event }
 abbrev pub phase_of : (place sentinels : ℕ) → ℕ
 phase_of place sentinels = TICK_MS * place / max sentinels 1
 
--- the note among what the call with this entry showed, where the output is one
-abbrev pub switch_of : Output → (entry : ℕ) → Option Switch
-switch_of (Send message) entry = None
-switch_of (Tell note) entry = Some (record { note = note; entry = entry })
+-- the note that an output is, where it is one
+abbrev pub note_of : Output → Option Note
+note_of (Send message) = None
+note_of (Tell note) = Some note
 
 -- the worst of what went wrong
 abbrev pub worst_of : (lacked_thread lost_port halted : Bool) → Option RunFault

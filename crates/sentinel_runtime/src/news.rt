@@ -4,6 +4,7 @@ ghost use Rattle.std.specs.Prelude.{◌≡◌, ◌≤◌, ◌<◌, ◌+◌, ◌�
 ghost use Rattle.sentinel_runtime.specs.declared.news.News.{News};
 ghost use Rattle.sentinel_runtime.specs.declared.news.TheConstants.{EVENTS_MAX, WAITING_MAX};
 
+use crate::running_sentinel::Which;
 use crate::switches::Switch;
 use ballot_law::Text;
 use mio::Waker;
@@ -22,24 +23,24 @@ pub const EVENTS_MAX: usize = 256;
 
 /// What a port tells its subscribers.
 #[derive(Drop)]
-pub enum News {
+pub enum News<J: Which> {
     /// A master's new address.
-    Switch(Switch),
+    Switch(Switch<J>),
     /// Another event.
     Event(Event),
 }
 
 /// What waits for one thread, in the order in which it came, and how many events are among it.
 #[derive(Drop)]
-struct Waiting {
-    news: Vec<News>,
+struct Waiting<J: Which> {
+    news: Vec<News<J>>,
     events: usize,
     ghost few: { events ≤ EVENTS_MAX },
     ghost all: { vec_len news ≤ WAITING_MAX + events },
 }
 
 /// Where the first event stands, where there is one.
-fn oldest_event(news: &[News]) -> Option<usize>
+fn oldest_event<J: Which>(news: &[News<J>]) -> Option<usize>
     ensures { IfSome result (λ place. place < length news.now) }
 {
     for place in 0..news.len() {
@@ -50,9 +51,9 @@ fn oldest_event(news: &[News]) -> Option<usize>
     None
 }
 
-impl Waiting {
+impl<J: Which> Waiting<J> {
     /// Nothing waits.
-    fn new(alloc: Global) -> Waiting
+    fn new(alloc: Global) -> Waiting<J>
         ensures { result.news.items ≡ [] }
     {
         Waiting {
@@ -62,7 +63,7 @@ impl Waiting {
     }
 
     /// Puts a new address after what waits. It is lost where as many wait as may, and where there is no memory.
-    fn put_switch(&mut self, switch: Switch)
+    fn put_switch(&mut self, switch: Switch<J>)
         ensures { (self.new.news.items ≡ self.old.news.items) ⊎ (self.new.news.items ≡ self.old.news.items ++ News.Switch switch ∷ []) }
     {
         if self.news.len() < WAITING_MAX + self.events {
@@ -91,7 +92,7 @@ impl Waiting {
     }
 
     /// What waits.
-    fn into_news(self) -> Vec<News>
+    fn into_news(self) -> Vec<News<J>>
         ensures same { result ≡ self.news }
         ensures few { length result.items ≤ WAITING_MAX + EVENTS_MAX }
     {
@@ -102,14 +103,14 @@ impl Waiting {
 
 /// What waits for one thread, and what wakes it when more comes, where it gave something that does.
 #[derive(Drop)]
-struct Mailbox {
-    waiting: Mutex<Waiting>,
+struct Mailbox<J: Which> {
+    waiting: Mutex<Waiting<J>>,
     waker: Mutex<Option<Waker>>,
 }
 
-impl Mailbox {
+impl<J: Which> Mailbox<J> {
     /// Nothing waits, and nobody is woken.
-    fn new(alloc: Global) -> Mailbox {
+    fn new(alloc: Global) -> Mailbox<J> {
         Mailbox {
             waiting: Mutex::new(Waiting::new(alloc)),
             waker: Mutex::new(None),
@@ -124,7 +125,7 @@ impl Mailbox {
     }
 
     /// Puts a new address after what waits.
-    fn put_switch<R: Wait>(&self, rt: &R, switch: Switch) {
+    fn put_switch<R: Wait>(&self, rt: &R, switch: Switch<J>) {
         self.waiting.lock(rt).put_switch(switch);
         self.wake(rt);
     }
@@ -139,15 +140,15 @@ impl Mailbox {
 /// What the threads of a Sentinel have to tell: each thread of its port has a list of its own, until it takes it.
 /// `tells_events` is whether the port tells its subscribers of other events than new addresses.
 #[derive(Drop)]
-pub(crate) struct NewsLists {
-    lists: Vec<Mailbox>,
+pub(crate) struct NewsLists<J: Which> {
+    lists: Vec<Mailbox<J>>,
     tells_events: AtomicBool,
     alloc: Global,
 }
 
-impl NewsLists {
+impl<J: Which> NewsLists<J> {
     /// Nothing waits for any of so many threads, and no events are told.
-    pub(crate) fn new(alloc: Global, threads: u16) -> Result<NewsLists, AllocError>
+    pub(crate) fn new(alloc: Global, threads: u16) -> Result<NewsLists<J>, AllocError>
         ensures { IfOk result (λ news. length news.lists.items ≡ threads) }
     {
         let mut lists = Vec::new(alloc);
@@ -179,7 +180,7 @@ impl NewsLists {
     }
 
     /// Adds a new address for each thread.
-    pub(crate) fn add_switch<R: Wait>(&self, rt: &R, switch: Switch) {
+    pub(crate) fn add_switch<R: Wait>(&self, rt: &R, switch: Switch<J>) {
         for list in &self.lists {
             list.put_switch(rt, switch);
         }
@@ -199,7 +200,7 @@ impl NewsLists {
     }
 
     /// Takes what waits for the thread with this number, in the order in which it came.
-    pub(crate) fn take<R: Wait>(&self, rt: &R, thread: u16) -> Vec<News>
+    pub(crate) fn take<R: Wait>(&self, rt: &R, thread: u16) -> Vec<News<J>>
         ensures few { length result.items ≤ WAITING_MAX + EVENTS_MAX }
         ensures other { length self.now.lists.items ≤ thread → result.items ≡ [] }
     {

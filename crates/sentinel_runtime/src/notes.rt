@@ -1,8 +1,12 @@
 //! Where the events of a Sentinel go, and in which order.
 
+ghost use Rattle.std.specs.List.{AllByRecursion};
+ghost use Rattle.sentinel_runtime.specs.Saying.{MayNote};
+
 use crate::named::{NamedChannel, NamedMaster, NamedNode};
 use crate::news::NewsLists;
 use crate::notices::tell_notice;
+use crate::running_sentinel::Which;
 use crate::switches::{Switch, switch_of};
 use ballot_law::{Output, Roster};
 use log::kv::With;
@@ -15,13 +19,13 @@ use std::sync::Wait;
 /// Where the events of a Sentinel go: to the log, with its port, and to the threads of its port, where these tell their
 /// subscribers.
 #[derive(Drop)]
-pub(crate) struct Announcing<'r, 'n, R> {
+pub(crate) struct Announcing<'r, 'n, J: Which, R> {
     pub(crate) rt: &'r R,
     pub(crate) port: u16,
-    pub(crate) news: &'n NewsLists,
+    pub(crate) news: &'n NewsLists<J>,
 }
 
-impl<'r, 'n, R: Log + Wait> Announcing<'r, 'n, R> {
+impl<'r, 'n, J: Which, R: Log + Wait> Announcing<'r, 'n, J, R> {
     /// The log, whose notes name the port.
     pub(crate) fn log(&self) -> Span<'r, &'r R, With<'r, (), u16>> {
         self.rt.span("sentinel").with("port", self.port)
@@ -49,7 +53,7 @@ impl<'r, 'n, R: Log + Wait> Announcing<'r, 'n, R> {
     }
 
     /// Notes a master's new address and has it told.
-    fn tell_switch(&self, roster: &Roster, switch: Switch) {
+    fn tell_switch(&self, roster: &Roster, switch: Switch<J>) {
         self.news.add_switch(self.rt, switch);
         let note = &switch.note;
         if let Some(old) = NamedMaster::of(roster, note.master, note.old) {
@@ -60,12 +64,14 @@ impl<'r, 'n, R: Log + Wait> Announcing<'r, 'n, R> {
 }
 
 /// Tells the changes of an address among the outputs of one input, which the call with this entry showed.
-fn tell_switches<R: Log + Wait>(
-    to: &Announcing<'_, '_, R>,
+fn tell_switches<J: Which, R: Log + Wait>(
+    to: &Announcing<'_, '_, J, R>,
     roster: &Roster,
     outputs: &[Output],
     entry: u64,
-) {
+)
+    requires noted { AllByRecursion (MayNote J.noted entry) outputs.now }
+{
     for output in outputs {
         if let Some(switch) = switch_of(output, entry) {
             to.tell_switch(roster, switch);
@@ -86,13 +92,15 @@ fn is_move(notice: Notice) -> bool {
 
 /// Tells what was noted up to the end of one input, and at its place among that the change of an address, where the
 /// input has one: that is told by its output, which the call with this entry showed, also where its notice was lost.
-pub(crate) fn tell_all<R: Log + Wait>(
-    to: &Announcing<'_, '_, R>,
+pub(crate) fn tell_all<J: Which, R: Log + Wait>(
+    to: &Announcing<'_, '_, J, R>,
     roster: &Roster,
     notices: &[Notice],
     outputs: &[Output],
     entry: u64,
-) {
+)
+    requires noted { AllByRecursion (MayNote J.noted entry) outputs.now }
+{
     let is_heard = to.is_heard();
     let mut are_told = false;
     for notice in notices {

@@ -2,6 +2,7 @@
 
 use crate::named::{NamedId, NamedMaster, NamedNode, NamedSentinel};
 use crate::notes::Announcing;
+use crate::running_sentinel::Which;
 use ballot_law::{MAX_EPOCH, Roster, RunId};
 use log::{Log, info, warn};
 use pubsub::Channel;
@@ -14,7 +15,7 @@ fn named(roster: &Roster, of: MasterThen) -> Option<NamedMaster<'_>> {
 }
 
 /// Tells whether TILT holds.
-fn tell_tilt<R: Log + Wait>(to: &Announcing<'_, '_, R>, is_tilted: bool) {
+fn tell_tilt<J: Which, R: Log + Wait>(to: &Announcing<'_, '_, J, R>, is_tilted: bool) {
     if is_tilted {
         to.tell(Channel::TiltEntered, "#tilt mode entered");
     } else {
@@ -23,7 +24,7 @@ fn tell_tilt<R: Log + Wait>(to: &Announcing<'_, '_, R>, is_tilted: bool) {
 }
 
 /// Tells for whom a Sentinel voted.
-fn tell_vote<R: Log + Wait>(to: &Announcing<'_, '_, R>, leader: RunId, epoch: u64) {
+fn tell_vote<J: Which, R: Log + Wait>(to: &Announcing<'_, '_, J, R>, leader: RunId, epoch: u64) {
     to.tell(
         Channel::VoteForLeader,
         format_args!("{} {epoch}", NamedId(leader)),
@@ -31,8 +32,8 @@ fn tell_vote<R: Log + Wait>(to: &Announcing<'_, '_, R>, leader: RunId, epoch: u6
 }
 
 /// Notes that the next failover of a master is put off for so many milliseconds.
-fn note_put_off<R: Log + Wait>(
-    to: &Announcing<'_, '_, R>,
+fn note_put_off<J: Which, R: Log + Wait>(
+    to: &Announcing<'_, '_, J, R>,
     left: u64,
     timeout: u64,
     master: NamedMaster<'_>,
@@ -44,7 +45,7 @@ fn note_put_off<R: Log + Wait>(
 }
 
 /// Notes that no failover can begin since the current epoch is the greatest one.
-fn note_spent<R: Log + Wait>(to: &Announcing<'_, '_, R>, master: NamedMaster<'_>) {
+fn note_spent<J: Which, R: Log + Wait>(to: &Announcing<'_, '_, J, R>, master: NamedMaster<'_>) {
     warn!(to.log(); target: "group_sentinels::lookout",
         "no epoch is left: the current one is {MAX_EPOCH}, the greatest, so no failover of master {master} can begin. End all Sentinels, give `current-epoch`, `config-epoch` and `leader-epoch` one small number in all files, and start them"
     );
@@ -52,22 +53,22 @@ fn note_spent<R: Log + Wait>(to: &Announcing<'_, '_, R>, master: NamedMaster<'_>
 
 /// Notes that all nodes of a master and all other Sentinels are down from here: what fails may be this Sentinel's own
 /// machine.
-fn note_all_down<R: Log + Wait>(to: &Announcing<'_, '_, R>, master: NamedMaster<'_>) {
+fn note_all_down<J: Which, R: Log + Wait>(to: &Announcing<'_, '_, J, R>, master: NamedMaster<'_>) {
     warn!(to.log(); target: "group_sentinels::lookout",
         "all nodes of master {master} and all other Sentinels are down from here: it may be this machine or its network that fails"
     );
 }
 
 /// Notes that a master which was to hand over stays.
-fn note_stay<R: Log + Wait>(to: &Announcing<'_, '_, R>, master: NamedMaster<'_>) {
+fn note_stay<J: Which, R: Log + Wait>(to: &Announcing<'_, '_, J, R>, master: NamedMaster<'_>) {
     warn!(to.log(); target: "group_sentinels::notes",
         "-switch-ended master {master}: it refused to hand over, or didn't in time, and stays the master"
     );
 }
 
 /// Tells what happened to a master. That it has another address is told by the output that says so.
-fn tell_master<R: Log + Wait>(
-    to: &Announcing<'_, '_, R>,
+fn tell_master<J: Which, R: Log + Wait>(
+    to: &Announcing<'_, '_, J, R>,
     what: MasterNotice,
     master: NamedMaster<'_>,
 ) {
@@ -94,8 +95,8 @@ fn tell_master<R: Log + Wait>(
 }
 
 /// Tells what happened to a replica of a master.
-fn tell_replica<R: Log + Wait>(
-    to: &Announcing<'_, '_, R>,
+fn tell_replica<J: Which, R: Log + Wait>(
+    to: &Announcing<'_, '_, J, R>,
     what: ReplicaNotice,
     node: NamedNode,
     master: NamedMaster<'_>,
@@ -115,8 +116,8 @@ fn tell_replica<R: Log + Wait>(
 }
 
 /// Tells something of a Sentinel that watches a master.
-fn tell_sentinel<R: Log + Wait>(
-    to: &Announcing<'_, '_, R>,
+fn tell_sentinel<J: Which, R: Log + Wait>(
+    to: &Announcing<'_, '_, J, R>,
     channel: Channel,
     sentinel: NamedSentinel,
     master: NamedMaster<'_>,
@@ -134,8 +135,8 @@ fn channel_of_down(down: bool) -> Channel {
 }
 
 /// Tells what a Sentinel's rules noted. What names nothing of the roster is left out.
-pub(crate) fn tell_notice<R: Log + Wait>(
-    to: &Announcing<'_, '_, R>,
+pub(crate) fn tell_notice<J: Which, R: Log + Wait>(
+    to: &Announcing<'_, '_, J, R>,
     roster: &Roster,
     notice: Notice,
 ) {

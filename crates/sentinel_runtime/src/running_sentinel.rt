@@ -5,8 +5,9 @@ ghost use Rattle.std.specs.List.{AllByRecursion};
 ghost use Rattle.ballot_law.specs.Messages.{sent};
 ghost use Rattle.boxed_nodes.specs.Sendable.{IsSendableOutput};
 ghost use Rattle.ballot_law.specs.declared.messages.Message.{Message};
+ghost use Rattle.ballot_law.specs.declared.messages.Note.{Note};
 ghost use Rattle.sentinel_runtime.specs.Running.{input_of, phase_of, IsLeftByTurns};
-ghost use Rattle.sentinel_runtime.specs.Saying.{IsReleased, IsSaid};
+ghost use Rattle.sentinel_runtime.specs.Saying.{IsNoted, IsReleased, IsSaid, MayNote};
 ghost use Rattle.sentinel_runtime.specs.declared.news.TheConstants.{EVENTS_MAX, WAITING_MAX};
 ghost use Rattle.courteous_sessions.specs.Clients.{informed, Takes, NotifiesClient};
 ghost use Rattle.sentinel_cell.specs.declared.entry.Outcome.TheVariants.{Stored};
@@ -40,14 +41,19 @@ use std::sync::{Mutex, Wait};
 /// What stands for no reading of the clock: it is above each of them.
 const NOT_TILTED: u64 = u64::MAX;
 
-/// Which Sentinel it is, and what may be said in its name. Only proofs read it.
+/// Which Sentinel it is, what may be said in its name, and which of its notes may be told, with how many calls stand
+/// before. Only proofs read it.
 pub trait Which {
+    ghost use Rattle.std.specs.Prelude.{ℕ};
     ghost use Rattle.atomic_table.specs.Seated.{TableId};
     ghost use Rattle.ballot_law.specs.declared.messages.Message.{Message};
+    ghost use Rattle.ballot_law.specs.declared.messages.Note.{Note};
 
     ghost cell: { TableId };
 
     ghost said: { Message → Type 0 };
+
+    ghost noted: { Note → ℕ → Type 0 };
 }
 
 impl Which for Brand {
@@ -56,6 +62,8 @@ impl Which for Brand {
     ghost cell = { record { words = 0; slots = 0; views_name = 0; atom = 0; block = 0; offset = 0; slot_names = [] } };
 
     ghost said = { λ message. Unit {0} };
+
+    ghost noted = { λ note number. Unit {0} };
 }
 
 /// A Sentinel of the group, which its threads share. `far` is the last request for a vote whose epoch was too far above
@@ -66,7 +74,7 @@ pub struct RunningSentinel<J: Which, S: ConfStore> {
     cell: SharedSentinel<S>,
     place: u16,
     port: u16,
-    news: NewsLists,
+    news: NewsLists<J>,
     known: KnownEpoch,
     far: Mutex<Option<FarRequest>>,
     halt_noted: AtomicU64,
@@ -74,6 +82,7 @@ pub struct RunningSentinel<J: Which, S: ConfStore> {
     of: PhantomData<J>,
     ghost is: { cell.id ≡ J.cell },
     ghost says: { (message : Message) → IsReleased cell.start message → ∥ J.said message ∥₁ },
+    ghost notes: { (note : Note) (number : ℕ) → IsNoted cell.start note number → ∥ J.noted note number ∥₁ },
 }
 
 /// A thread's seat of that Sentinel, with the thread's own room for outputs.
@@ -140,7 +149,7 @@ impl<J: Which> ThreadSeat<J> {
 
 impl<J: Which, S: ConfStore> RunningSentinel<J, S> {
     /// The Sentinel at this place of the roster, with its first seat. Its clients come to this port, which so many
-    /// threads serve. What its stored entries release may be said in its name.
+    /// threads serve. What its stored entries release may be said in its name, and told of it.
     pub fn with_seat(
         alloc: Global,
         cell: SharedSentinel<S>,
@@ -153,6 +162,7 @@ impl<J: Which, S: ConfStore> RunningSentinel<J, S> {
         S: Drop,
         requires named { (cell.id ≡ J.cell) × (seat.cell ≡ J.cell) }
         requires says { (message : Message) → IsReleased cell.start message → ∥ J.said message ∥₁ }
+        requires notes { (note : Note) (number : ℕ) → IsNoted cell.start note number → ∥ J.noted note number ∥₁ }
         ensures seat { IfOk result (λ r. r.1.seat ≡ seat) }
         ensures cell { IfOk result (λ r. (r.0.cell ≡ cell) × (r.0.place ≡ place)) }
         ensures news { IfOk result (λ r. length r.0.news.lists.items ≡ port_threads) }
@@ -247,6 +257,7 @@ impl<J: Which, S: ConfStore> RunningSentinel<J, S> {
         requires within { IsWithinEvent input.now.event }
         ensures sendable { OnOk result (AllByRecursion IsSendableOutput seat.new.outbox.shown) }
         ensures said { OnOk result (AllByRecursion (IsSaid J.said) seat.new.outbox.shown) }
+        ensures noted { IfOk result (λ entry. AllByRecursion (MayNote J.noted entry) seat.new.outbox.shown) }
         ensures added { IfOk result (λ entry. Adds self.now.cell.start seat.old.seat.view input.entry.now Stored seat.new.outbox.shown seat.new.seat.view
             × (entry + 1 ≡ length seat.new.seat.view.front)) }
         ensures fault { IfErr result (λ fault. Faulted self.now.cell.start seat.old.seat.view input.entry.now seat.new.outbox.shown seat.new.seat.view fault) }
@@ -332,7 +343,7 @@ impl<J: Which, S: ConfStore> RunningSentinel<J, S> {
     }
 
     /// Where its events go.
-    pub(crate) fn announcing<'r, 'n, R>(&'n self, rt: &'r R) -> Announcing<'r, 'n, R> {
+    pub(crate) fn announcing<'r, 'n, R>(&'n self, rt: &'r R) -> Announcing<'r, 'n, J, R> {
         Announcing {
             rt,
             port: self.port,
@@ -392,7 +403,7 @@ impl<J: Which, S: ConfStore> RunningSentinel<J, S> {
     /// it. Once `tell_events` was called it gets all other events that the Sentinel notes as well, but the oldest where
     /// more than `EVENTS_MAX` wait for it, and those for which there is no memory; before that none is kept. Nothing
     /// where the port has no such thread.
-    pub fn take_news<R: Wait>(&self, rt: &R, port_thread: u16) -> Vec<News>
+    pub fn take_news<R: Wait>(&self, rt: &R, port_thread: u16) -> Vec<News<J>>
         ensures few { length result.items ≤ WAITING_MAX + EVENTS_MAX }
         ensures other { length self.now.news.lists.items ≤ port_thread → result.items ≡ [] }
     {
@@ -406,7 +417,7 @@ impl<J: Which, S: ConfStore> RunningSentinel<J, S> {
     }
 
     /// Tells a session of a note: whether it is told, which joins what it sends. `NoMemory` changes nothing.
-    pub fn notify(&self, session: &mut ClientSession, switch: &Switch) -> Result<bool, NoMemory>
+    pub fn notify(&self, session: &mut ClientSession, switch: &Switch<J>) -> Result<bool, NoMemory>
         ensures told { let roster = roster_of self.now.cell.start.plan in switch.now.note.master < length roster.masters
             → NotifiesClient roster switch.now.note switch.now.entry session.old result session.new }
         ensures other { length (roster_of self.now.cell.start.plan).masters ≤ switch.now.note.master → (result ≡ Ok false) × (session.new ≡ session.old) }

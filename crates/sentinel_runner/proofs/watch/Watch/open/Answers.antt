@@ -1,0 +1,6 @@
+use Rattle.sentinel_runner.proofs.Opening.{opens_held}
+use Rattle.sentinel_runner.proofs.watch.Watch.open.Goals as goal
+
+pub returns-clause-held : goal.returns-clause-held
+returns-clause-held g c =
+    opens_held _ _ _ _ _ _ _ c.args.loaded.reads c.args.loaded.holds c.into_parts-conf.ensures.parts.0 c.in_ok-opened.ensures.start
