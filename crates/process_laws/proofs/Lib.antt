@@ -21,3 +21,4 @@ pub mod Pieces
 pub mod Openings
 pub mod OwnActions
 pub mod Connected
+pub mod TwoConnected

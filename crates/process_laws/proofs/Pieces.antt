@@ -48,7 +48,7 @@ near_alike g h [] same near = tt
 near_alike g h (x ∷ xs) same near =
     (subst (λ (current : Option ℕ). heard_as current (command_of x) ≡ command_of x) (sym same) near.0, near_alike g h xs same near.1)
 
-nothing_between : (g : Guest) → IsLater g g
+pub nothing_between : (g : Guest) → IsLater g g
 nothing_between g = record { more = []; front = sym (append-nil g.party.view.front); silent = refl; quiet = refl; known = refl }
 
 later_still : (g next last : Guest) → IsLater g next → IsLater next last → IsLater g last

@@ -11,3 +11,4 @@ pub mod HeardAnswers
 pub mod Openings
 pub mod OwnActions
 pub mod Connected
+pub mod TwoConnected
