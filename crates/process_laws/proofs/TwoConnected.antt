@@ -20,7 +20,7 @@ use Rattle.ballot_law.specs.declared.records.Election.{Election}
 use Rattle.ballot_law.specs.declared.steps.KeptText.{KeptText}
 use Rattle.ballot_law.specs.declared.steps.KeptText.TheVariants.{Old}
 use Rattle.ballot_law.specs.Hellos.{IsAddr, IsRunId}
-use Rattle.ballot_law.specs.Rosters.{id_of, size}
+use Rattle.ballot_law.specs.Rosters.{id_of}
 use Rattle.ballot_law.specs.Words.{hex, id_text, run_id}
 use Rattle.ballot_law.proofs.WordLemmas.{run_id-id_text, length-id_text}
 use Rattle.client_commands.specs.declared.protocols.Protocol.TheVariants.{Two}
