@@ -1,6 +1,7 @@
 //! What holds of all processes of a group together.
 
 ghost use Rattle.process_laws.specs.Actions.{ProcessesAreARun, ProcessesAreSafe};
+ghost use Rattle.process_laws.specs.CarriedPieces.{PiecesAreCarried};
 ghost use Rattle.process_laws.specs.Connected.{ConnectedProcessesAreSafe};
 ghost use Rattle.process_laws.specs.GroupStarts.{OneGroupIsAStart};
 ghost use Rattle.process_laws.specs.LateAnswers.{LateAnswersHappen};
@@ -66,4 +67,9 @@ pub fn law_connected_processes_are_safe()
 /// heard over a connection, byte for byte, on which it asked before who is there.
 pub fn law_connected_processes_happen()
     ensures { ConnectedProcessesHappen }
+{}
+
+/// What that law asks of a connection follows from what the port's session promises of each piece that it takes.
+pub fn law_pieces_are_carried()
+    ensures { PiecesAreCarried }
 {}
