@@ -21,3 +21,5 @@ pub mod Pieces
 pub mod Openings
 pub mod OwnActions
 pub mod Connected
+pub mod CarriedPieces
+pub mod TwoConnected

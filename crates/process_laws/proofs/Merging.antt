@@ -73,7 +73,7 @@ stop_old group i node IsStored = refl
 stop_old group i node IsHalted = refl
 stop_old group i node Stopped = refl
 
-opened_good : (roster : Roster) (i : ℕ) (file : Kept) (now : ℕ) (w : World) → IsOpened roster i file now w → IsGood w
+pub opened_good : (roster : Roster) (i : ℕ) (file : Kept) (now : ℕ) (w : World) → IsOpened roster i file now w → IsGood w
 opened_good roster i file now w o = record {
   plan = o.plan;
   core = subst (IsSound w.plan) (sym o.core) (opened_is_sound w.plan now o.plan).0;

@@ -76,10 +76,10 @@ identity_tells node id null_items got e = absurd (let no : ⊥ = cc in no)
 
 -- ---- the question for the run id
 
-abbrev id_value : Frame
+abbrev pub id_value : Frame
 id_value = words_frame (codes "SENTINEL" ∷ codes "MYID" ∷ [])
 
-id_value_whole : IsFrame id_value
+pub id_value_whole : IsFrame id_value
 id_value_whole = short_array (codes "SENTINEL" ∷ codes "MYID" ∷ []) (omega arith, (omega arith, tt)) (omega arith)
 
 id_read : command_of id_value ≡ Ok MyId
@@ -132,7 +132,7 @@ id_replied start now g bytes h known quiet silent serves =
 
 -- ---- the run id that was heard
 
-told_whole : (text : List ℕ) → length text ≡ 40 → told_of text ≡ text
+pub told_whole : (text : List ℕ) → length text ≡ 40 → told_of text ≡ text
 told_whole text short = ap (λ (n : ℕ). if nat_lt 65536 n then whole_lines (take 65536 text) else text) short
 
 same_run_id : (node : NodeName) (id own : RunId) (got : Option Event) → IsRunId own → heard_of node (Identity id) (told_value (id_frame own)) ≡ Ok got → own ≡ id

@@ -1,5 +1,5 @@
 -- A connection by the pieces that its ends took is one by their values.
-use Rattle.std.proofs.Common.{◌≡◌, ℕ, List, [], ◌∷◌, ◌++◌, map, refl, ap, sym, ◌∙◌, subst, append_assoc, Option, Result, Ok, Err}
+use Rattle.std.proofs.Common.{◌≡◌, ℕ, List, [], ◌∷◌, ◌++◌, map, refl, ap, sym, ◌∙◌, subst, inr, append_assoc, Option, Result, Ok, Err}
 use Rattle.std.specs.List.{flat_map, AllByRecursion}
 use Rattle.std.proofs.lemmas.List.{append-nil}
 use Rattle.ballot_law.specs.declared.messages.Body.{Body}
@@ -18,8 +18,11 @@ use Rattle.resp2.specs.Framing.Frame.{Frame, spelling, IsFrame}
 use Rattle.resp2.proofs.FramingLemmas.Drains.{nothing_waits}
 use Rattle.sentinel_cell.specs.declared.entry.Entry.{Entry}
 use Rattle.sentinel_cell.specs.Histories.{World}
+use Rattle.process_laws.specs.CarriedPieces.{EachTurnOf, EachTurnInPieces}
+use Rattle.process_laws.specs.Connected.{EachTurn}
 use Rattle.process_laws.specs.Connections.{IsAskable}
 use Rattle.process_laws.specs.SharedConnections.{IsLater, IsNear, ServedBeside, AnsweredInPieces, PiecesAreAConnection}
+use Rattle.process_laws.proofs.SharedConnections.{Whatever, Anything}
 use Rattle.process_laws.proofs.Turns.{question_spelled}
 
 -- ---- the values of a piece
@@ -48,7 +51,7 @@ near_alike g h [] same near = tt
 near_alike g h (x ∷ xs) same near =
     (subst (λ (current : Option ℕ). heard_as current (command_of x) ≡ command_of x) (sym same) near.0, near_alike g h xs same near.1)
 
-nothing_between : (g : Guest) → IsLater g g
+pub nothing_between : (g : Guest) → IsLater g g
 nothing_between g = record { more = []; front = sym (append-nil g.party.view.front); silent = refl; quiet = refl; known = refl }
 
 later_still : (g next last : Guest) → IsLater g next → IsLater next last → IsLater g last
@@ -60,67 +63,83 @@ later_still g next last a b = record {
   known = b.known ∙ a.known;
 }
 
--- whose values are served from a later moment on
-abbrev IsServedSo : World → Guest → List Frame → List ℕ → Type 0
-IsServedSo start g values bytes = (h : Guest) × ServedBeside start g values bytes h
+-- whose values are served from a later moment on, with what holds of each turn
+abbrev IsServedSo : (P : List Entry → Type 0) → (Q : Frame → List ℕ → Type 0) → World → Guest → List Frame → List ℕ → Type 0
+IsServedSo P Q start g values bytes = (h : Guest) × (served : ServedBeside start g values bytes h) × EachTurn P Q start g values bytes h served
 
-served_later : (start : World) (g next : Guest) (values : List Frame) (bytes : List ℕ) → IsLater g next → IsServedSo start next values bytes → IsServedSo start g values bytes
-served_later start g next [] bytes later s = (g, (s.1.0, refl))
-served_later start g next (x ∷ xs) bytes later s =
-    let t = s.1 in (s.0, (t.0, t.1, t.2, t.3, t.4, t.5, later_still g next t.1 later t.6, t.7, t.8, t.9))
-
-served_piece : (start : World) (now : ℕ) (g next : Guest) (values more : List Frame) (bytes rest : List ℕ) (middle : Guest) → IsLater g next → AllByRecursion (IsNear next) values
-    → ServesAll start now next values bytes middle → IsServedSo start middle more rest → IsServedSo start g (values ++ more) (bytes ++ rest)
-served_piece start now g next [] more bytes rest middle later near serves s =
-    subst (λ (t : List ℕ). IsServedSo start g more (t ++ rest)) (sym serves.0)
-    (served_later start g next more rest later (subst (λ (x : Guest). IsServedSo start x more rest) serves.1 s))
-served_piece start now g next (x ∷ xs) more bytes rest middle later near serves s =
-    let answered = serves.0 in
-    let near_still : AllByRecursion (IsNear answered) xs = near_alike next answered xs (current_stays start now next x serves.1 answered serves.4) near.1 in
-    let others = served_piece start now answered answered xs more serves.2 rest middle (nothing_between answered) near_still serves.5 s in (
-      others.0,
-      (
-        now,
-        next,
-        answered,
-        serves.1,
-        serves.2 ++ rest,
-        ap (λ (t : List ℕ). t ++ rest) serves.3 ∙ append_assoc serves.1 serves.2 rest,
-        later,
-        near.0,
-        serves.4,
-        others.1,
-      ),
-    )
-
--- ---- all pieces
-
-abbrev flat : List (List ℕ) → List ℕ
+abbrev pub flat : List (List ℕ) → List ℕ
 flat pieces = flat_map (λ (piece : List ℕ). piece) pieces
 
-record IsServedWhole (start : World) (g : Guest) (stream bytes : List ℕ) : Type 0 where
+record IsServedWhole (P : List Entry → Type 0) (Q : Frame → List ℕ → Type 0) (start : World) (g : Guest) (stream bytes : List ℕ) : Type 0 where
   pub values : List Frame
   pub rest : List ℕ
   pub reads : Reads stream values rest
-  pub serves : IsServedSo start g values bytes
+  pub serves : IsServedSo P Q start g values bytes
 
-served_whole : (start : World) (g : Guest) (held : List ℕ) (pieces : List (List ℕ)) (bytes : List ℕ) → AnsweredInPieces start g held pieces bytes
-    → IsServedWhole start g (held ++ flat pieces) bytes
-served_whole start g held [] bytes a = record { values = []; rest = held; reads = append-nil held; serves = (g, (a, refl)) }
-served_whole start g held (piece ∷ pieces) bytes a =
-    let answered = a.8 in
-    let kept = a.3 in
-    let others = served_whole start a.2 kept pieces a.5 a.10 in
-    let read : Reads (held ++ piece) answered.values kept = subst (λ (t : List ℕ). Reads (held ++ piece) answered.values t) answered.splits.2.0 answered.splits.1 in
-    let both = reads_join (held ++ piece) (flat pieces) kept answered.values others.values others.rest read others.reads in
-    record {
-      values = answered.values ++ others.values;
-      rest = others.rest;
-      reads = subst (λ (t : List ℕ). Reads t (answered.values ++ others.values) others.rest) (append_assoc held piece (flat pieces)) both;
-      serves =
-          subst (λ (t : List ℕ). IsServedSo start g (answered.values ++ others.values) t) (sym a.6)
-          (served_piece start a.0 g a.1 answered.values others.values a.4 a.5 a.2 a.7 a.9 answered.answers others.serves);
-    }
+module _ (P : List Entry → Type 0) (Q : Frame → List ℕ → Type 0) (start : World) where
+  served_later : (g next : Guest) (values : List Frame) (bytes : List ℕ) → IsLater g next → IsServedSo P Q start next values bytes → IsServedSo P Q start g values bytes
+  served_later g next [] bytes later s = (g, (s.1.0, refl), tt)
+  served_later g next (x ∷ xs) bytes later s =
+      let t = s.1 in (s.0, (t.0, t.1, t.2, t.3, t.4, t.5, later_still g next t.1 later t.6, t.7, t.8, t.9), s.2)
+
+  served_piece : (now : ℕ) (g next : Guest) (values more : List Frame) (bytes rest : List ℕ) (middle : Guest) → IsLater g next → AllByRecursion (IsNear next) values
+      → (serves : ServesAll start now next values bytes middle) → EachTurnOf P Q start now next values bytes middle serves → IsServedSo P Q start middle more rest
+      → IsServedSo P Q start g (values ++ more) (bytes ++ rest)
+  served_piece now g next [] more bytes rest middle later near serves turns s =
+      subst (λ (t : List ℕ). IsServedSo P Q start g more (t ++ rest)) (sym serves.0)
+      (served_later g next more rest later (subst (λ (x : Guest). IsServedSo P Q start x more rest) serves.1 s))
+  served_piece now g next (x ∷ xs) more bytes rest middle later near serves turns s =
+      let answered = serves.0 in
+      let near_still : AllByRecursion (IsNear answered) xs = near_alike next answered xs (current_stays start now next x serves.1 answered serves.4) near.1 in
+      let others = served_piece now answered answered xs more serves.2 rest middle (nothing_between answered) near_still serves.5 turns.2 s in (
+        others.0,
+        (
+          now,
+          next,
+          answered,
+          serves.1,
+          serves.2 ++ rest,
+          ap (λ (t : List ℕ). t ++ rest) serves.3 ∙ append_assoc serves.1 serves.2 rest,
+          later,
+          near.0,
+          serves.4,
+          others.1,
+        ),
+        (turns.0, turns.1, others.2),
+      )
+
+  -- ---- all pieces
+
+  served_whole : (g : Guest) (held : List ℕ) (pieces : List (List ℕ)) (bytes : List ℕ) (a : AnsweredInPieces start g held pieces bytes)
+      → EachTurnInPieces P Q start g held pieces bytes a → IsServedWhole P Q start g (held ++ flat pieces) bytes
+  served_whole g held [] bytes a turns = record { values = []; rest = held; reads = append-nil held; serves = (g, (a, refl), tt) }
+  served_whole g held (piece ∷ pieces) bytes a turns =
+      let answered = a.8 in
+      let kept = a.3 in
+      let others = served_whole a.2 kept pieces a.5 a.10 turns.1 in
+      let read : Reads (held ++ piece) answered.values kept =
+      subst (λ (t : List ℕ). Reads (held ++ piece) answered.values t) answered.splits.2.0 answered.splits.1 in
+      let both = reads_join (held ++ piece) (flat pieces) kept answered.values others.values others.rest read others.reads in
+      record {
+        values = answered.values ++ others.values;
+        rest = others.rest;
+        reads = subst (λ (t : List ℕ). Reads t (answered.values ++ others.values) others.rest) (append_assoc held piece (flat pieces)) both;
+        serves =
+            subst (λ (t : List ℕ). IsServedSo P Q start g (answered.values ++ others.values) t) (sym a.6)
+            (served_piece a.0 g a.1 answered.values others.values a.4 a.5 a.2 a.7 a.9 answered.answers turns.0 others.serves);
+      }
+
+-- of no turn anything has to hold
+any_turn_of : (start : World) (now : ℕ) (g : Guest) (values : List Frame) (bytes : List ℕ) (h : Guest) (serves : ServesAll start now g values bytes h)
+    → EachTurnOf Whatever Anything start now g values bytes h serves
+any_turn_of start now g [] bytes h serves = tt
+any_turn_of start now g (value ∷ values) bytes h serves = (inr tt, tt, any_turn_of start now serves.0 values serves.2 h serves.5)
+
+pub any_turn_in_pieces : (start : World) (g : Guest) (held : List ℕ) (pieces : List (List ℕ)) (bytes : List ℕ) (a : AnsweredInPieces start g held pieces bytes)
+    → EachTurnInPieces Whatever Anything start g held pieces bytes a
+any_turn_in_pieces start g held [] bytes a = tt
+any_turn_in_pieces start g held (piece ∷ pieces) bytes a =
+    (any_turn_of start a.0 a.1 a.8.values a.4 a.2 a.8.answers, any_turn_in_pieces start a.2 a.3 pieces a.5 a.10)
 
 -- ---- the values are questions
 
@@ -158,18 +177,21 @@ questions_spelled (a ∷ questions) askable =
     )
 
 -- what the port served, by the values of what it was sent
-pub record IsServedAsSent (start : World) (g : Guest) (all bytes : List ℕ) (not_yet_got : List ℕ) : Type 0 where
+pub record IsServedAsSent (P : List Entry → Type 0) (Q : Frame → List ℕ → Type 0) (start : World) (g : Guest) (all bytes : List ℕ) (not_yet_got : List ℕ) : Type 0 where
   pub values : List Frame
   pub rest : List ℕ
   pub whole : AllByRecursion IsFrame values
   pub sent : all ≡ (flat_map spelling values ++ rest) ++ not_yet_got
   pub h : Guest
   pub served : ServedBeside start g values bytes h
+  pub turns : EachTurn P Q start g values bytes h served
 
-pub served_as_sent : (start : World) (g : Guest) (frames : List Frame) (all : List ℕ) (pieces : List (List ℕ)) (not_yet_got bytes : List ℕ) → AllByRecursion IsFrame frames
-    → all ≡ flat_map spelling frames → all ≡ flat pieces ++ not_yet_got → AnsweredInPieces start g [] pieces bytes → IsServedAsSent start g all bytes not_yet_got
-served_as_sent start g frames all pieces not_yet_got bytes whole spelled sent answered =
-    let served = served_whole start g [] pieces bytes answered in
+pub served_in_turns : (P : List Entry → Type 0) (Q : Frame → List ℕ → Type 0) (start : World) (g : Guest) (frames : List Frame) (all : List ℕ) (pieces : List (List ℕ))
+    (not_yet_got bytes : List ℕ) → AllByRecursion IsFrame frames
+    → all ≡ flat_map spelling frames → all ≡ flat pieces ++ not_yet_got → (answered : AnsweredInPieces start g [] pieces bytes)
+    → EachTurnInPieces P Q start g [] pieces bytes answered → IsServedAsSent P Q start g all bytes not_yet_got
+served_in_turns P Q start g frames all pieces not_yet_got bytes whole spelled sent answered turns =
+    let served = served_whole P Q start g [] pieces bytes answered turns in
     let reads : Reads (flat pieces ++ not_yet_got) served.values (served.rest ++ not_yet_got) = reads_longer (flat pieces) served.values served.rest not_yet_got served.reads in
     let parts = frames_read frames (flat pieces ++ not_yet_got) served.values (served.rest ++ not_yet_got) whole (sym sent ∙ spelled) reads in
     record {
@@ -179,7 +201,14 @@ served_as_sent start g frames all pieces not_yet_got bytes whole spelled sent an
       sent = sent ∙ (parts.0 ∙ sym (append_assoc (flat_map spelling served.values) served.rest not_yet_got));
       h = served.serves.0;
       served = served.serves.1;
+      turns = served.serves.2;
     }
+
+pub served_as_sent : (start : World) (g : Guest) (frames : List Frame) (all : List ℕ) (pieces : List (List ℕ)) (not_yet_got bytes : List ℕ) → AllByRecursion IsFrame frames
+    → all ≡ flat_map spelling frames → all ≡ flat pieces ++ not_yet_got → AnsweredInPieces start g [] pieces bytes
+    → IsServedAsSent Whatever Anything start g all bytes not_yet_got
+served_as_sent start g frames all pieces not_yet_got bytes whole spelled sent answered =
+    served_in_turns Whatever Anything start g frames all pieces not_yet_got bytes whole spelled sent answered (any_turn_in_pieces start g [] pieces bytes answered)
 
 pub pieces_are_a_connection : PiecesAreAConnection
 pieces_are_a_connection start g questions events c =

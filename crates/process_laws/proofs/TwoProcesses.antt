@@ -50,12 +50,12 @@ is_roster =
 
 -- the group at the start, and its files
 
-starts_here : IsStart roster begin
+pub starts_here : IsStart roster begin
 starts_here =
     starts (6379 ∷ 6380 ∷ []) refl (node ∷ node ∷ [])
     (All-cons IsFreshOther node (node ∷ []) is_fresh (All-cons IsFreshOther node [] is_fresh (All-nil IsFreshOther)))
 
-opens_here : (place : ℕ) (id : RunId) (kept : Kept) (now : ℕ) → place < 2 → id_of roster place ≡ id → IsKeptPart (plan_at place id kept).conf kept →
+pub opens_here : (place : ℕ) (id : RunId) (kept : Kept) (now : ℕ) → place < 2 → id_of roster place ≡ id → IsKeptPart (plan_at place id kept).conf kept →
     IsOpened roster place kept now (opened_by (plan_at place id kept) now)
 opens_here place id kept now low own is = opens_well 6380 (lit< tt) (lit≤ tt) roster (same_differs roster roster refl) place id kept now low own is
 

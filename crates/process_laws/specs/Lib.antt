@@ -11,3 +11,5 @@ pub mod HeardAnswers
 pub mod Openings
 pub mod OwnActions
 pub mod Connected
+pub mod CarriedPieces
+pub mod TwoConnected

@@ -1,10 +1,12 @@
 //! What holds of all processes of a group together.
 
 ghost use Rattle.process_laws.specs.Actions.{ProcessesAreARun, ProcessesAreSafe};
+ghost use Rattle.process_laws.specs.CarriedPieces.{PiecesAreCarried};
 ghost use Rattle.process_laws.specs.Connected.{ConnectedProcessesAreSafe};
 ghost use Rattle.process_laws.specs.GroupStarts.{OneGroupIsAStart};
 ghost use Rattle.process_laws.specs.LateAnswers.{LateAnswersHappen};
 ghost use Rattle.process_laws.specs.OwnActions.{OwnActionsAreActions};
+ghost use Rattle.process_laws.specs.TwoConnected.{ConnectedProcessesHappen};
 ghost use Rattle.process_laws.specs.TwoProcesses.{ActionsHappen};
 
 /// What the processes of a group did, in an order in which each answer and each hello is heard after the release that
@@ -59,4 +61,15 @@ pub fn law_own_actions_are_actions()
 /// done has one order, in which what is answered or published stands before what is heard of it.
 pub fn law_connected_processes_are_safe()
     ensures { ConnectedProcessesAreSafe }
+{}
+
+/// Two processes meet all that the law of connected processes asks: one is elected by the other one's vote, which it
+/// heard over a connection, byte for byte, on which it asked before who is there.
+pub fn law_connected_processes_happen()
+    ensures { ConnectedProcessesHappen }
+{}
+
+/// What that law asks of a connection follows from what the port's session promises of each piece that it takes.
+pub fn law_pieces_are_carried()
+    ensures { PiecesAreCarried }
 {}
