@@ -94,7 +94,7 @@ impl Paired {
     }
 
     /// Its file.
-    fn text(&self, alloc: Global) -> Result<String, NoMemory> {
+    pub(crate) fn text(&self, alloc: Global) -> Result<String, NoMemory> {
         let (id, other) = (self.id, self.other);
         let (master, replica) = self.nodes;
         Ok(format!(in alloc;

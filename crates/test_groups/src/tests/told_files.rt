@@ -115,6 +115,22 @@ pub(crate) struct ToldFile<'a, R: Clock> {
 }
 
 impl<'a, R: Clock> ToldFile<'a, R> {
+    /// A file that holds this text, and that nobody holds back.
+    pub(crate) fn holding(
+        alloc: Global,
+        told: &'a Told,
+        text: &[u8],
+    ) -> Result<ToldFile<'a, R>, NoMemory>
+        ensures { IfOk result (λ file. file.file.failed ≡ 0) }
+    {
+        Ok(ToldFile {
+            file: MemoryStore::holding(alloc, text)?,
+            alloc,
+            told,
+            held: None,
+        })
+    }
+
     /// An empty file, which nobody reads. `held` has the clock to wait by and the number to wait for.
     pub(crate) fn telling(
         alloc: Global,

@@ -7,7 +7,7 @@ use crate::tests::told_files::{BothTold, ENDING, LOOKED_AT, OPEN, Told, ToldFile
 use client_port::{Admission, PortAddress, ReadsTimes};
 use log::Log;
 use sentinel_rules::Profile;
-use sentinel_runner::{GroupFault, PortSettings, Watch, WatchSettings};
+use sentinel_runner::{GroupFault, LoadedConf, PortSettings, Watch, WatchSettings};
 use std::alloc::{AllocError, Global};
 use std::io::{self, Read, Write};
 use std::net::{Ipv4Addr, Net, SocketAddr};
@@ -206,9 +206,10 @@ fn run<R: Threads + Wait + Net + Clock + ReadsTimes + Log + Sync>(
     file: &Told,
 ) -> Ended {
     let settings = settings(alloc, one.port).ok()?;
-    let store: ToldFile<'_, R> = ToldFile::telling(alloc, file, None).ok()?;
-    let conf = one.conf(alloc)?;
-    let watch = Watch::open(rt, alloc, conf, store, settings).ok()?;
+    let text = one.text(alloc).ok()?;
+    let store: ToldFile<'_, R> = ToldFile::holding(alloc, file, text.as_bytes()).ok()?;
+    let loaded = LoadedConf::load(alloc, store).ok()?;
+    let watch = Watch::open(rt, alloc, loaded, settings).ok()?;
     file.stage.store(OPEN, Ordering::SeqCst);
     wait_for(rt, &file.stage, LOOKED_AT);
     Some(watch.run(rt))
