@@ -1,9 +1,10 @@
 -- One value more within a limit, and the ends of a piece.
-use Rattle.std.proofs.Common.{◌≡◌, ◌≢◌, ◌⊎◌, ◌≤◌, ◌+◌, ℕ, Bool, true, false, List, [], ◌∷◌, ◌++◌, Option, Some, None, Result, Ok, Err, refl, sym, ap, ◌∙◌, subst, inl, inr, append_assoc, append-nil, true≢false, arith}
+use Rattle.std.proofs.Common.{◌≡◌, ◌≢◌, ◌⊎◌, ◌≤◌, ◌<◌, ◌+◌, ℕ, Bool, true, false, List, [], ◌∷◌, ◌++◌, Option, Some, None, Result, Ok, Err, refl, sym, ap, ◌∙◌, subst, inl, inr, append_assoc, append-nil, true≢false, arith}
 use Rattle.std.specs.Prelude.{OnOk, OnErr, is_err}
-use Rattle.pubsub.specs.Listening.{Listening}
+use Rattle.ballot_law.specs.Limits as limits
+use Rattle.pubsub.specs.Listening.{Listening, is_listening}
 use Rattle.client_commands.specs.Attendants.{Attendance, TakesCommon}
-use Rattle.client_commands.specs.Courtesies.{ClientInfo}
+use Rattle.client_commands.specs.Courtesies.{ClientInfo, is_stranger}
 use Rattle.client_commands.specs.Lines.{Reads, value_at, IsLineOf, Answers}
 use Rattle.client_commands.proofs.LineStreams.{reads_next, spelled_or_line}
 use Rattle.sentinel_core.specs.declared.serving.fault.ServeFault.{ServeFault}
@@ -14,6 +15,7 @@ use Rattle.port_sessions.specs.declared.limit.Reach.TheVariants.{Done, Waits}
 use Rattle.port_sessions.specs.Stores.{may_store, one_if}
 use Rattle.port_sessions.specs.Talks.{Talk, party}
 use Rattle.ballot_law.specs.declared.commands.Command.{Command}
+use Rattle.resp2.specs.Asked.{IsCommon}
 use Rattle.resp2.specs.Commands.{redis_command_of}
 use Rattle.resp2.specs.declared.command.CommandFault.{CommandFault}
 use Rattle.resp2.specs.declared.framing.fault.FrameFault.{FrameFault}
@@ -21,13 +23,13 @@ use Rattle.resp2.specs.declared.framing.fault.FrameFault.TheVariants.{NoMemory}
 use Rattle.resp2.specs.declared.framing.fault.Unread.TheVariants.{NeedsMore, Faulty}
 use Rattle.resp2.specs.declared.framing.value.Value.{Value}
 use Rattle.resp2.specs.Framing.Frame.{Frame, view, spelling, HasLines}
-use Rattle.resp2.specs.Framing.Stream.{Held, reading, ended, bytes_in}
+use Rattle.resp2.specs.Framing.Stream.{Held, reading, ended, bytes_in, held_size}
 use Rattle.resp2.proofs.Switches.{known_too}
 use Rattle.sentinel_cell.specs.declared.view.View.{View}
 use Rattle.sentinel_cell.specs.Histories.{World}
 use Rattle.courteous_sessions.specs.Epochs.{heard_as}
 use Rattle.courteous_sessions.specs.Stores.{value_may_store, stores_among, IsStoreNext}
-use Rattle.courteous_sessions.specs.Visits.{Guest, guest, Tells}
+use Rattle.courteous_sessions.specs.Visits.{Guest, guest, introduced, Tells}
 use Rattle.courteous_sessions.specs.OnTheWay.{IsIdle, IsReady, IsOnTheWay, RespondsIn, Refuses, guest_of}
 use Rattle.courteous_sessions.specs.GoingOn.{IsWithin, IsCommonAhead, IsValueAhead, Stops, StepsWithin, DrainsWithin, BreaksWithin, GoesOn}
 use Rattle.courteous_sessions.proofs.Serving.{was_read, serves-push, shows_fault}
@@ -50,9 +52,57 @@ marked_after held mark moved after value rest is stands found behind moves =
     let at = stands ∙ is ∙ ap reading (front.1 ∙ ap (λ (t : List ℕ). front.0 ++ t) same) in
     moves front.0 at ∙ sym (behind ∙ ap reading same)
 
-pub next_stores : (held mark after : Held) (value : Frame) (rest : List ℕ) → value_at (bytes_in held) ≡ Ok (value, rest) → value_may_store value ≡ true
-    → IsStoreNext (bytes_in held)
-next_stores held mark after value rest found stores = record { value = value; rest = rest; found = found; stores = stores }
+-- what stands next, where it is answered
+pub value_is_ahead : (value : Value) (more fewer : ℕ) (held mark moved after same : Held) (asked : Result Command CommandFault) → held ≡ reading (bytes_in held) → mark ≡ held
+    → Answers view held (Ok (Some value)) after → HasLines (view value) → held_size after < held_size held → asked ≡ redis_command_of (view value)
+    → more ≡ one_if (may_store asked) + fewer → same ≡ after
+    → ((front : List ℕ) → mark ≡ reading (front ++ bytes_in after) → moved ≡ reading (bytes_in after)) → IsValueAhead more held value fewer moved same
+value_is_ahead value more fewer held mark moved after same asked is stands given lines smaller asks counts left moves =
+    let at = was_read view held value after is given in
+    subst (λ (h : Held). IsValueAhead more held value fewer moved h) (sym left) (record {
+      given = given;
+      lines = lines;
+      counts = counts ∙ ap (λ (k : Result Command CommandFault). one_if (may_store k) + fewer) asks;
+      marks = marked_after held mark moved after (view value) at.0 is stands at.1 at.2 moves;
+      smaller = smaller;
+    })
+
+pub common_is_ahead : (asker : ClientInfo) (l : Listening) (command : Command) (more fewer : ℕ) (held mark moved after same : Held) → held ≡ reading (bytes_in held) → mark ≡ held
+    → TakesCommon held after command → IsCommon command × limits.IsWithin command → (is_stranger asker ≡ false) × (is_listening l ≡ false) → held_size after < held_size held
+    → more ≡ one_if (may_store (Ok command)) + fewer → same ≡ after
+    → ((front : List ℕ) → mark ≡ reading (front ++ bytes_in after) → moved ≡ reading (bytes_in after)) → IsCommonAhead asker l more held command fewer moved same
+common_is_ahead asker l command more fewer held mark moved after same is stands taken common plain smaller counts left moves =
+    subst (λ (h : Held). IsCommonAhead asker l more held command fewer moved h) (sym left) (record {
+      taken = taken;
+      common = common.0;
+      within = common.1;
+      known = plain.0;
+      quiet = plain.1;
+      counts = counts;
+      marks = marked_after held mark moved after taken.value taken.rest is stands (ap value_at (ap bytes_in taken.held_is) ∙ taken.found) taken.left moves;
+      smaller = smaller;
+    })
+
+-- a command that may store and has to wait
+pub common_is_next : (command : Command) (more : ℕ) (held mark after left : Held) → mark ≡ held → TakesCommon held after command
+    → (may_store (Ok command) ≡ true) × (more ≡ 0) × (left ≡ mark) → (more ≡ 0) × (left ≡ held) × IsStoreNext (bytes_in held)
+common_is_next command more held mark after left stands taken waits = (
+  waits.1,
+  waits.2 ∙ stands,
+  record {
+    value = taken.value;
+    rest = taken.rest;
+    found = ap value_at (ap bytes_in taken.held_is) ∙ taken.found;
+    stores = ap may_store (known_too taken.value command taken.asked) ∙ waits.0;
+  },
+)
+
+pub guest_same : (before mid : Attendance) (l same_l : Listening) (talk same : Talk) (v : View) → mid.asker ≡ before.asker → same_l ≡ l → same ≡ talk
+    → guest_of before l talk v ≡ guest_of mid same_l same v
+guest_same before mid l same_l talk same v a b c =
+    ap (λ (x : ClientInfo). guest (party v talk.listens) l talk.told x) (sym a)
+    ∙ ap (λ (x : Listening). guest (party v talk.listens) x talk.told mid.asker) (sym b)
+    ∙ ap (λ (t : Talk). guest (party v t.listens) same_l t.told mid.asker) (sym c)
 
 -- ---- how many values may store
 
@@ -236,3 +286,29 @@ module _ (start : World) (now : ℕ) (most : ℕ) (stream : List ℕ) (g : Guest
 pub first_within : (start : World) (now most : ℕ) (stream : List ℕ) (held : Held) (g : Guest) → held ≡ reading stream → IsWithin start now most stream g most held [] g
 first_within start now most stream held g is =
     record { so_far = record { values = []; rest = stream; held_is = is; parts = refl; answers = (refl, refl) }; count = omega arith }
+
+-- all that may be answered of a piece was
+pub piece_within : (start : World) (now most limit : ℕ) (answer : Result Reach ServeFault) (before known fed after : Attendance) (l same_l later_l : Listening) (knows : Bool)
+    (piece : List ℕ) (unsent kept out : List ℕ) (talk same later : Talk) (v w : View)
+    → known ≡ record before { asker = introduced start knows before.asker } → fed.asker ≡ known.asker → fed.held ≡ reading (bytes_in known.held ++ piece) → limit ≡ most
+    → kept ≡ unsent → same ≡ talk → same_l ≡ l
+    → ((most : ℕ) (stream first bytes : List ℕ) (g : Guest) → kept ≡ first ++ bytes → IsWithin start now most stream g limit fed.held bytes (guest_of fed same_l same v)
+    → (more : List ℕ) × (out ≡ first ++ more) × DrainsWithin start now most stream g answer after.held more (guest_of after later_l later w))
+    → (more : List ℕ) × (out ≡ unsent ++ more)
+    × GoesOn start now most (bytes_in before.held ++ piece) (guest (party v talk.listens) l talk.told (introduced start knows before.asker)) answer (bytes_in after.held) more
+    (guest_of after later_l later w)
+piece_within start now most limit answer before known fed after l same_l later_l knows piece unsent kept out talk same later v w is_known asker held counts is_kept is_same is_l
+    drains =
+    let g = guest (party v talk.listens) l talk.told (introduced start knows before.asker) in
+    let stream = bytes_in before.held ++ piece in
+    let there : fed.held ≡ reading stream = held ∙ ap (λ (a : Attendance). reading (bytes_in a.held ++ piece)) is_known in
+    let first = first_within start now most stream fed.held g there in
+    let met : introduced start knows before.asker ≡ fed.asker = sym (asker ∙ ap (λ (a : Attendance). a.asker) is_known) in
+    let at_limit = subst (λ (n : ℕ). IsWithin start now most stream g n fed.held [] g) (sym counts) first in
+    let at_l = subst (λ (x : Listening). IsWithin start now most stream g limit fed.held [] (guest (party v talk.listens) x talk.told (introduced start knows before.asker)))
+    (sym is_l) at_limit
+    in
+    let met_there = subst (λ (x : ClientInfo). IsWithin start now most stream g limit fed.held [] (guest (party v talk.listens) same_l talk.told x)) met at_l in
+    let begins = subst (λ (t : Talk). IsWithin start now most stream g limit fed.held [] (guest (party v t.listens) same_l t.told fed.asker)) (sym is_same) met_there in
+    let got = drains most stream unsent [] g (is_kept ∙ sym (append-nil unsent)) begins in
+    (got.0, got.1, was_taken start now most stream g answer after.held got.0 (guest_of after later_l later w) got.2)

@@ -30,6 +30,13 @@ pub(crate) enum NextValue {
     Short,
 }
 
+/// A command as it is asked.
+fn asked_by(command: &Command) -> Result<Command, CommandFault>
+    ensures { result ≡ Ok command.now }
+{
+    Ok(*command)
+}
+
 impl Exchange {
     /// Whether a value that was taken is answered, which asks this; else it is held again, and the call ends.
     fn allows(&mut self, asked: &Result<Command, CommandFault>, limit: &mut Limit) -> bool
@@ -64,8 +71,7 @@ impl Exchange {
         let Some(command) = self.next_common() else {
             return self.value_ahead(limit);
         };
-        let asked = Ok(command);
-        if self.allows(&asked, limit) {
+        if self.allows(&asked_by(&command), limit) {
             return Ok(NextValue::Common(command));
         }
         Ok(NextValue::PutOff)

@@ -7,3 +7,4 @@ pub mod GoingOn
 pub mod Joining
 pub mod Served
 pub mod Told
+pub mod Storing
