@@ -230,6 +230,7 @@ impl<T: Read + Write + Drop> Connection<T> {
     #[tactic(auto, using(crate::proofs::Sends::sent_none, crate::proofs::Sends::sent_some))]
     fn write(&mut self) -> Result<(), ErrorKind>
         ensures sent { IsSent (T.contents self.old.stream) (T.contents self.new.stream) (unsent_of self.old.session) (unsent_of self.new.session) }
+        ensures waits { self.new.stores ≡ self.old.stores }
     {
         match self.stream.write(self.session.unsent()) {
             Ok(0) => Err(ErrorKind::WriteZero),
@@ -246,6 +247,7 @@ impl<T: Read + Write + Drop> Connection<T> {
     #[tactic(auto, using(crate::proofs::Sends::sent_none, crate::proofs::Sends::sent_twice, crate::proofs::Sends::sent_nothing))]
     pub(crate) fn send(&mut self) -> bool
         ensures sent { IsSent (T.contents self.old.stream) (T.contents self.new.stream) (unsent_of self.old.session) (unsent_of self.new.session) }
+        ensures waits { self.new.stores ≡ self.old.stores }
     {
         for _ in 0..u64::MAX {
             if self.session.unsent().is_empty() {

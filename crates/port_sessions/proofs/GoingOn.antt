@@ -1,5 +1,5 @@
 -- One value more within a limit, and the ends of a piece.
-use Rattle.std.proofs.Common.{◌≡◌, ◌≢◌, ◌⊎◌, ◌≤◌, ◌+◌, ◌-◌, ℕ, Bool, true, false, List, [], ◌∷◌, ◌++◌, Option, Some, None, length, drop, Result, Ok, Err, refl, sym, ap, ◌∙◌, subst, inl, inr, append_assoc, true≢false, arith}
+use Rattle.std.proofs.Common.{◌≡◌, ◌≢◌, ◌⊎◌, ◌≤◌, ◌+◌, ◌-◌, ℕ, true, false, List, [], ◌∷◌, ◌++◌, Option, Some, None, length, drop, Result, Ok, Err, refl, sym, ap, ◌∙◌, subst, inl, inr, append_assoc, true≢false, arith}
 use Rattle.std.proofs.lemmas.List.{append-nil, length-append}
 use Rattle.std.proofs.Math.Seq.{drop-append_seam}
 use Rattle.std.specs.Prelude.{OnOk, is_err}
@@ -9,7 +9,6 @@ use Rattle.sentinel_core.specs.Serving.Serving.{last_line}
 use Rattle.resp2.specs.Commands.{command_of}
 use Rattle.resp2.specs.declared.framing.fault.FrameFault.{FrameFault}
 use Rattle.resp2.specs.declared.framing.fault.FrameFault.TheVariants.{NoMemory}
-use Rattle.resp2.specs.declared.framing.fault.Unread.TheVariants.{NeedsMore}
 use Rattle.resp2.specs.Framing.Frame.{Frame, spelling}
 use Rattle.resp2.specs.Framing.Reading.{frame_at}
 use Rattle.resp2.specs.Framing.Stream.{Held, reading, ended, bytes_in, Feeds, Splits}
@@ -23,7 +22,7 @@ use Rattle.port_sessions.specs.declared.limit.Reach.{Reach}
 use Rattle.port_sessions.specs.declared.limit.Reach.TheVariants.{Done, Waits}
 use Rattle.port_sessions.specs.Stores.{may_store, one_if, stores_among, IsStoreNext}
 use Rattle.port_sessions.specs.Talks.{Party, Responds, Fails, IsHaltedAt}
-use Rattle.port_sessions.specs.OnTheWay.{IsOnTheWay, Refuses}
+use Rattle.port_sessions.specs.OnTheWay.{Refuses}
 use Rattle.port_sessions.specs.GoingOn.{IsWithin, IsAsked, Stops, StepsWithin, DrainsWithin, TakesWithin, BreaksWithin}
 use Rattle.port_sessions.proofs.Stepping.{answers-push}
 

@@ -1,10 +1,9 @@
 -- Which commands leave what is kept.
-use Rattle.std.proofs.Common.{◌≡◌, ℕ, Bool, true, false, Option, Some, None, refl, sym, true≢false}
+use Rattle.std.proofs.Common.{◌≡◌, ℕ, Bool, true, false, Option, Some, None, refl, true≢false}
 use Rattle.std.specs.Prelude.{if◌then◌else◌, ◌||◌}
 use Rattle.ballot_law.specs.declared.addresses.Addr.{Addr}
-use Rattle.ballot_law.specs.declared.commands.Command.{Command}
 use Rattle.ballot_law.specs.declared.commands.Command.TheVariants.{Ping, IsMasterDownByAddr, GetMasterAddrByName, Masters, Master, Replicas, Sentinels, MyId, CkQuorum, Failover, FlushConfig, Subscribe}
-use Rattle.sentinel_rules.specs.Answers.{Answered, asked_of, asked_to_switch, switch_at, has_heir}
+use Rattle.sentinel_rules.specs.Answers.{Answered, asked_of, asked_to_switch, has_heir}
 use Rattle.sentinel_rules.specs.Plans.{Plan}
 use Rattle.sentinel_rules.specs.Profiles.{by_profile}
 use Rattle.sentinel_rules.specs.declared.profiles.Profile.{Profile}

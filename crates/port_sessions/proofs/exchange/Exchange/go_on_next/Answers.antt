@@ -1,5 +1,4 @@
-use Rattle.std.proofs.Common.{◌++◌, ◌∙◌, ap, append-nil, sym}
-use Rattle.port_sessions.proofs.GoingOn.{answered_within, broken_within, finished, put_off, refused_within}
+use Rattle.port_sessions.proofs.GoingOn.{answered_within, broken_within, finished, refused_within}
 use Rattle.port_sessions.specs.Talks.{party}
 use Rattle.port_sessions.proofs.exchange.Exchange.go_on_next.Goals as goal
 
