@@ -68,6 +68,20 @@ impl CommandReader {
         self.asker.is_stranger()
     }
 
+    /// The bytes that came and aren't taken yet.
+    pub fn held(&self) -> &[u8]
+        ensures { result.now ≡ bytes_in self.now.held }
+    {
+        self.frames.held()
+    }
+
+    /// Has it read on with what this reader holds, as where a value that was taken has to wait.
+    pub fn go_back(&mut self, frames: Frames)
+        ensures { self.new ≡ record self.old { held = frames } }
+    {
+        self.frames = frames;
+    }
+
     /// Whether all that came was taken: no bytes are held.
     pub fn holds_nothing(&self) -> bool
         ensures { IsTrue result ↔ (bytes_in self.now.held ≡ []) }

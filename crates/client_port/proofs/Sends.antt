@@ -1,7 +1,7 @@
 -- What is read and sent by one call after the other, where the bytes may be unknown.
-use Rattle.std.proofs.Common.{◌≡◌, ◌∷◌, subst, ◌≤◌, ◌+◌, ◌-◌, ℕ, List, length, arith, [], ◌++◌, take, drop, Option, None, Some, append_assoc, sym, refl, ◌∙◌, ap}
+use Rattle.std.proofs.Common.{◌≡◌, ℕ, List, [], ◌++◌, take, drop, Option, None, Some, append_assoc, sym, refl, ◌∙◌, ap}
 use Rattle.std.specs.Io.KnownBytes.{Consumes, Appends, Keeps}
-use Rattle.std.proofs.lemmas.List.{append-nil, take-append-drop, length-take-le, drop-take}
+use Rattle.std.proofs.lemmas.List.{append-nil, take-append-drop}
 use Rattle.client_port.specs.Sending.{IsSent}
 
 pub consumes_nothing : (a b : Option (List ℕ)) → Keeps a b → Consumes a b []
@@ -33,18 +33,3 @@ sent_twice a b c unsent middle left h k =
 pub sent_nothing : (a : Option (List ℕ)) (unsent : List ℕ) → IsSent a a unsent unsent
 sent_nothing None unsent = ([], refl, tt)
 sent_nothing (Some old) unsent = ([], refl, sym (append-nil old))
-
-pub first_part : (xs : List ℕ) (n : ℕ) → n ≤ length xs → xs ≡ take n xs ++ drop (length (take n xs)) xs
-first_part xs n fits =
-    let size : length (take n xs) ≡ n = length-take-le n xs fits in
-    rw size (sym (take-append-drop n xs))
-
-pub whole_part : (xs : List ℕ) → xs ≡ xs ++ drop (length xs) xs
-whole_part [] = refl
-whole_part (x ∷ xs) = ap (λ t. x ∷ t) (whole_part xs)
-
--- `&xs[from..to]`, as the first `to` elements without the first `from` of them
-pub part_is : (xs : List ℕ) (from to : ℕ) → from ≤ to → take (to - from) (drop from xs) ≡ drop from (take to xs)
-part_is xs from to ordered =
-    let whole : from + (to - from) ≡ to = omega (arith, ordered) in
-    subst (λ n. take (to - from) (drop from xs) ≡ drop from (take n xs)) whole (sym (drop-take from (to - from) xs))

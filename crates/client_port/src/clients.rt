@@ -387,8 +387,8 @@ impl Clients {
         self.count_unsent(key);
     }
 
-    /// Notes what the system told of one connection: whether it is to read and answer at once. One that may ask for
-    /// votes waits for its turn among those.
+    /// Notes what the system told of one connection: whether it is to read and answer at once. One with a value that
+    /// may be stored waits for its turn among those.
     #[tactic(auto, using(crate::proofs::Keeping::kept_few, crate::proofs::Keeping::others_kept, crate::proofs::Keeping::others_closed))]
     fn note_event(&mut self, key: usize, event: &Event) -> bool
         ensures others { (other : ℕ) → other ≢ key → get self.new.connections other ≡ get self.old.connections other }
@@ -400,7 +400,7 @@ impl Clients {
         if half || event.is_readable() {
             connection.note_readable(half);
         }
-        connection.wants_turn() && !connection.asks_for_votes()
+        connection.wants_turn() && !connection.stores()
     }
 
     /// Has the connection of which the system told read and answer.
@@ -454,8 +454,8 @@ impl Clients {
         }
     }
 
-    /// The connection that is next among those that may have asked for a vote and have something to do, where there is
-    /// one.
+    /// The connection that is next among those that wait for what may be stored and have something to do, where there
+    /// is one.
     fn next_voter(&mut self) -> Option<usize>
         ensures { self.new.connections ≡ self.old.connections }
     {
@@ -468,8 +468,8 @@ impl Clients {
         None
     }
 
-    /// Has a connection read, answer and send that waits among those that may not have asked for a vote. One that has
-    /// by now waits for its turn among those.
+    /// Has a connection read, answer and send that waits for nothing that may be stored. One that does by now waits for
+    /// its turn among those.
     fn serve_plain<J: Which, S: ConfStore, R: Wait + Clock>(
         &mut self,
         rt: &R,
@@ -491,7 +491,7 @@ impl Clients {
     }
 
     /// Has the connections read, answer and send that have something to do, though the system doesn't tell of them: of
-    /// those that may have asked for a vote a single one, so that no client waits for more than one store. It stops
+    /// those that wait for what may be stored a single one, so that no client waits for more than one store. It stops
     /// where the group ends.
     pub(crate) fn serve_busy<J: Which, S: ConfStore, R: Wait + Clock>(
         &mut self,

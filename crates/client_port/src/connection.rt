@@ -1,10 +1,10 @@
 //! One client's connection.
 
-ghost use Rattle.std.specs.Prelude.{◌≡◌, ◌≢◌, ◌<◌, ◌↔◌, ◌⊎◌, ◌++◌, ℕ, List, [], None, IsTrue, false, true, length};
+ghost use Rattle.std.specs.Prelude.{◌≡◌, ◌<◌, ◌↔◌, ◌⊎◌, ◌++◌, ℕ, List, [], IsTrue, false, true, length};
 ghost use Rattle.std.specs.Io.KnownBytes.{Consumes};
-ghost use Rattle.courteous_sessions.specs.Clients.{unsent_of, held_of, listens_of, owes_password};
+ghost use Rattle.courteous_sessions.specs.Clients.{unsent_of, listens_of, owes_password};
 ghost use Rattle.client_port.specs.Admitting.{has_own_seat};
-ghost use Rattle.client_port.specs.Sending.{IsSent, IsHanded};
+ghost use Rattle.client_port.specs.Sending.{IsSent, IsHanded, waits_after};
 
 use crate::read_buffer::{PIECE, ReadBuffer};
 use crate::seats::Place;
@@ -12,7 +12,7 @@ use crate::standing::Standing;
 use crate::waiting::Line;
 use ballot_law::NoMemory;
 use client_commands::{PortFacts, Protocol};
-use courteous_sessions::ClientSession;
+use courteous_sessions::{ClientSession, Reach};
 use sentinel_conf::ConfStore;
 use sentinel_core::ServeFault;
 use sentinel_runtime::{News, RunFault, RunState, RunningSentinel, ThreadSeat, Which};
@@ -20,7 +20,7 @@ use std::io::{ErrorKind, Read, Write};
 use std::rt::Clock;
 use std::sync::Wait;
 
-/// How many times a connection reads, or hands bytes over, before the others have their turn.
+/// How many times a connection reads, and hands bytes over, before the others have their turn.
 const STEPS_MAX: u32 = 16;
 
 /// How many bytes may wait to be sent before the connection is read no further, and no more of what was read is
@@ -42,22 +42,32 @@ pub(crate) struct Origin {
 /// A client's connection with its session.
 ///
 /// `readable` is whether the system told of bytes that may not be read yet. `half` is whether its client has ended
-/// its stream or broken off, as the system told: then the end is still to be read after the last piece. `votes` is
-/// whether it may have asked for a vote that isn't answered yet. `ends` is whether no more of it is read or answered:
-/// it is closed once all is sent. `heard` is the clock's reading of the turn that read its last byte, or of when it
-/// came. `counted` is how many bytes were unsent when that was looked at last.
+/// its stream or broken off, as the system told: then the end is still to be read after the last piece. `stores` is
+/// whether its session holds a whole value that waits, as its answer may be stored: until that comes no more is read.
+/// `ends` is whether no more of it is read or answered: it is closed once all is sent. `heard` is the clock's reading
+/// of the turn that read its last byte, or of when it came. `counted` is how many bytes were unsent when that was
+/// looked at last.
 #[derive(Drop)]
 pub(crate) struct Connection<T: Read + Write + Drop> {
     stream: T,
     session: ClientSession,
-    buffer: ReadBuffer,
     readable: bool,
     half: bool,
-    votes: bool,
+    stores: bool,
     ends: bool,
     origin: Origin,
     heard: u64,
     counted: usize,
+}
+
+/// Whether a value waits after such a call of the session.
+fn is_put_off(progress: &Result<Reach, ServeFault>) -> bool
+    ensures { result ≡ waits_after progress.now }
+{
+    match progress {
+        Ok(Reach::Waits) => true,
+        Ok(Reach::Done) | Err(_) => false,
+    }
 }
 
 impl<T: Read + Write + Drop> Connection<T> {
@@ -66,10 +76,9 @@ impl<T: Read + Write + Drop> Connection<T> {
         Connection {
             stream,
             session,
-            buffer: ReadBuffer::new(),
             readable: false,
             half: false,
-            votes: false,
+            stores: false,
             ends: false,
             origin,
             heard: origin.came,
@@ -182,7 +191,7 @@ impl<T: Read + Write + Drop> Connection<T> {
 
     /// In which line it waits where it has something to do.
     pub(crate) fn line(&self) -> Line {
-        match (self.votes, self.origin.is_peer) {
+        match (self.stores, self.origin.is_peer) {
             (false, _) => Line::Plain,
             (true, true) => Line::PeerVoter,
             (true, false) => Line::OtherVoter,
@@ -195,19 +204,19 @@ impl<T: Read + Write + Drop> Connection<T> {
         self.half |= half;
     }
 
-    /// Whether it may have asked for a vote that isn't answered yet, which is stored before it is.
-    pub(crate) fn asks_for_votes(&self) -> bool {
-        self.votes
+    /// Whether a whole value waits, as its answer may be stored.
+    pub(crate) fn stores(&self) -> bool
+        ensures { result ≡ self.now.stores }
+    {
+        self.stores
     }
 
     /// Whether a turn has something to do: there is something to read or to answer, it doesn't end, and not too much is
     /// unsent.
     pub(crate) fn wants_turn(&self) -> bool
-        ensures { IsTrue result ↔ ((self.now.ends ≡ false) × ((self.now.readable ≡ true) ⊎ (self.now.buffer ≢ [])) × (length (unsent_of self.now.session) < UNSENT_MAX)) }
+        ensures { IsTrue result ↔ ((self.now.ends ≡ false) × ((self.now.readable ≡ true) ⊎ (self.now.stores ≡ true)) × (length (unsent_of self.now.session) < UNSENT_MAX)) }
     {
-        !self.ends
-            && (self.readable || !self.buffer.is_empty())
-            && self.session.unsent().len() < UNSENT_MAX
+        !self.ends && (self.readable || self.stores) && self.session.unsent().len() < UNSENT_MAX
     }
 
     /// Whether it ends and all is sent.
@@ -221,7 +230,7 @@ impl<T: Read + Write + Drop> Connection<T> {
     #[tactic(auto, using(crate::proofs::Sends::sent_none, crate::proofs::Sends::sent_some))]
     fn write(&mut self) -> Result<(), ErrorKind>
         ensures sent { IsSent (T.contents self.old.stream) (T.contents self.new.stream) (unsent_of self.old.session) (unsent_of self.new.session) }
-        ensures read { self.new.buffer ≡ self.old.buffer }
+        ensures waits { self.new.stores ≡ self.old.stores }
     {
         match self.stream.write(self.session.unsent()) {
             Ok(0) => Err(ErrorKind::WriteZero),
@@ -238,7 +247,7 @@ impl<T: Read + Write + Drop> Connection<T> {
     #[tactic(auto, using(crate::proofs::Sends::sent_none, crate::proofs::Sends::sent_twice, crate::proofs::Sends::sent_nothing))]
     pub(crate) fn send(&mut self) -> bool
         ensures sent { IsSent (T.contents self.old.stream) (T.contents self.new.stream) (unsent_of self.old.session) (unsent_of self.new.session) }
-        ensures read { self.new.buffer ≡ self.old.buffer }
+        ensures waits { self.new.stores ≡ self.old.stores }
     {
         for _ in 0..u64::MAX {
             if self.session.unsent().is_empty() {
@@ -289,12 +298,12 @@ impl<T: Read + Write + Drop> Connection<T> {
     /// Reads once, in the turn that began at this reading of the clock: whether the connection is whole. A read that
     /// leaves room has read all that there was, unless the stream has ended.
     #[tactic(auto, using(crate::proofs::Sends::consumes_nothing))]
-    fn read(&mut self, now: u64) -> bool
-        requires { self.old.buffer ≡ [] }
-        ensures read { Consumes (T.remaining self.old.stream) (T.remaining self.new.stream) self.new.buffer }
-        ensures session { self.new.session ≡ self.old.session }
+    fn read(&mut self, buffer: &mut ReadBuffer, now: u64) -> bool
+        requires { buffer.old ≡ [] }
+        ensures read { Consumes (T.remaining self.old.stream) (T.remaining self.new.stream) buffer.new }
+        ensures session { (self.new.session ≡ self.old.session) × (self.new.stores ≡ self.old.stores) }
     {
-        match self.buffer.fill(&mut self.stream) {
+        match buffer.fill(&mut self.stream) {
             Ok(0) => self.ends = true,
             Ok(count) => {
                 self.readable = self.half || count == PIECE;
@@ -309,7 +318,8 @@ impl<T: Read + Write + Drop> Connection<T> {
         true
     }
 
-    /// Hands the session the bytes that are next, at a reading of the clock.
+    /// Hands the session these bytes, at a reading of the clock. Where a value waits, as its answer may be stored, that
+    /// is answered, and no other such one.
     fn hand_over<J: Which, S: ConfStore, R: Wait + Clock>(
         &mut self,
         rt: &R,
@@ -317,25 +327,23 @@ impl<T: Read + Write + Drop> Connection<T> {
         member: &RunningSentinel<J, S>,
         seat: &mut ThreadSeat<J>,
         now: u64,
+        bytes: &[u8],
     )
-        ensures handed { (bytes : List ℕ) × (self.old.buffer ≡ bytes ++ self.new.buffer)
-            × IsHanded member.now.cell.start now self.old.session seat.old.seat.view bytes self.new.session seat.new.seat.view }
+        ensures handed { IsHanded member.now.cell.start now self.old.session seat.old.seat.view self.old.stores bytes.now self.new.session seat.new.seat.view self.new.stores }
         ensures stream { self.new.stream ≡ self.old.stream }
     {
-        let bytes = self.buffer.next();
-        let count = bytes.len();
-        let dotted = bytes.last() == Some(&b'.');
-        if let Err(fault) = member.receive(rt, seat, &mut self.session, now, bytes) {
+        let most = if self.stores { 1 } else { 0 };
+        let progress = member.receive(rt, seat, &mut self.session, now, bytes, most);
+        self.stores = is_put_off(&progress);
+        if let Err(fault) = progress {
             if let ServeFault::Halted = fault {
                 state.note(RunFault::Halted);
             }
             self.ends = true;
         }
-        self.votes |= dotted;
-        self.buffer.take(count);
     }
 
-    /// Reads where nothing is left to hand over, and hands over what is next: whether the connection is whole.
+    /// Reads, unless a value waits, and hands over what was read: whether the connection is whole.
     fn step<J: Which, S: ConfStore, R: Wait + Clock>(
         &mut self,
         rt: &R,
@@ -344,47 +352,19 @@ impl<T: Read + Write + Drop> Connection<T> {
         seat: &mut ThreadSeat<J>,
         now: u64,
     ) -> bool {
-        if self.buffer.is_empty() && !self.read(now) {
+        let mut buffer = ReadBuffer::new();
+        if !self.stores && !self.read(&mut buffer, now) {
             return false;
         }
-        if !self.buffer.is_empty() {
-            self.hand_over(rt, state, member, seat, now);
+        if self.stores || !buffer.is_empty() {
+            self.hand_over(rt, state, member, seat, now, buffer.all());
         }
         true
     }
 
-    /// Whether all that it asked is answered: nothing is left to read or to hand over, and no part of a value is held.
-    fn is_answered(&self) -> bool
-        ensures { IsTrue result ↔ ((self.now.readable ≡ false) × (self.now.buffer ≡ []) × (held_of self.now.session ≡ [])) }
-    {
-        !self.readable && self.buffer.is_empty() && self.session.holds_nothing()
-    }
-
-    /// Reads and answers, in the turn that began at this reading of the clock, until it would wait, or until others
-    /// have their turn: after the step in which the clock's millisecond ended, or from which on it may ask for votes.
-    /// The answer is whether it is whole.
-    fn take_steps<J: Which, S: ConfStore, R: Wait + Clock>(
-        &mut self,
-        rt: &R,
-        state: &RunState,
-        member: &RunningSentinel<J, S>,
-        seat: &mut ThreadSeat<J>,
-        began: u64,
-    ) -> bool {
-        let asked_for_votes = self.votes;
-        for _ in 0..STEPS_MAX {
-            if !self.step(rt, state, member, seat, began) {
-                return false;
-            }
-            if !self.wants_turn() || self.votes != asked_for_votes || state.clock.now(rt) != began {
-                break;
-            }
-        }
-        true
-    }
-
-    /// Its turn, which began at this reading of the clock: whether it is whole. After a turn among those that may
-    /// have asked for votes it isn't one of them any more, once all that it asked is answered.
+    /// Its turn, which began at this reading of the clock: it reads and answers until it would wait, or until others
+    /// have their turn: after the step in which the clock's millisecond ended, or from which on a value waits. The
+    /// answer is whether it is whole.
     pub(crate) fn turn<J: Which, S: ConfStore, R: Wait + Clock>(
         &mut self,
         rt: &R,
@@ -393,11 +373,14 @@ impl<T: Read + Write + Drop> Connection<T> {
         seat: &mut ThreadSeat<J>,
         began: u64,
     ) -> bool {
-        let asked_for_votes = self.votes;
-        let is_whole = self.take_steps(rt, state, member, seat, began);
-        if asked_for_votes && self.is_answered() {
-            self.votes = false;
+        for _ in 0..STEPS_MAX {
+            if !self.step(rt, state, member, seat, began) {
+                return false;
+            }
+            if !self.wants_turn() || self.stores || state.clock.now(rt) != began {
+                break;
+            }
         }
-        is_whole
+        true
     }
 }

@@ -8,11 +8,11 @@ use std::alloc::{AllocError, Global};
 /// Where a connection that has something to do waits for its turn.
 #[derive(Clone, Copy, PartialEq, Eq)]
 pub(crate) enum Line {
-    /// It may not have asked for a vote.
+    /// None of what it asked is stored before it is answered, as far as it was read.
     Plain,
-    /// It may have, and comes from an address of another Sentinel.
+    /// What it asks next may be, and it comes from an address of another Sentinel.
     PeerVoter,
-    /// It may have, and comes from elsewhere.
+    /// The same, and it comes from elsewhere.
     OtherVoter,
 }
 
@@ -72,7 +72,7 @@ impl Waiting {
         }
     }
 
-    /// How many wait that may not have asked for a vote.
+    /// How many wait for nothing that may be stored.
     pub(crate) fn plain_count(&self) -> usize {
         self.plain.len()
     }
@@ -82,7 +82,7 @@ impl Waiting {
         self.plain.next()
     }
 
-    /// How many wait that may have asked for a vote.
+    /// How many wait for what may be stored.
     pub(crate) fn voter_count(&self) -> usize {
         self.peers.len().saturating_add(self.voters.len())
     }

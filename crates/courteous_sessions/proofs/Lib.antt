@@ -7,5 +7,6 @@ pub mod NestedTold
 pub mod SameValues
 pub mod Serving
 pub mod Stepping
+pub mod GoingOn
 pub mod Values
 pub mod OwnWords

@@ -301,7 +301,7 @@ module _ (start : World) (now : ℕ) where
 -- ---- values of a stream
 
 module _ (start : World) (now : ℕ) where
-  serves-push : (g : Guest) (values : List Frame) (bytes : List ℕ) (m : Guest) (value : Frame) (more : List ℕ) (h : Guest)
+  pub serves-push : (g : Guest) (values : List Frame) (bytes : List ℕ) (m : Guest) (value : Frame) (more : List ℕ) (h : Guest)
       → ServesAll start now g values bytes m → Tells start now m value more h
       → ServesAll start now g (values ++ value ∷ []) (bytes ++ more) h
   serves-push g [] bytes m value more h a r =
@@ -341,7 +341,7 @@ module _ (start : World) (now : ℕ) where
         answers = a.answers;
       }
 
-  shows_fault : {V : Type 0} (view : V → Frame) (held : Held) (fault : FrameFault) (after : Held) → held ≡ reading (bytes_in held) → fault ≢ NoMemory
+  pub shows_fault : {V : Type 0} (view : V → Frame) (held : Held) (fault : FrameFault) (after : Held) → held ≡ reading (bytes_in held) → fault ≢ NoMemory
       → Reads view held (Err fault) after → value_at (bytes_in held) ≡ Err (Faulty fault)
   shows_fault view (reading bytes) NoMemory after is not h = absurd (not refl)
   shows_fault view (reading bytes) BadKind after is not h = h.0

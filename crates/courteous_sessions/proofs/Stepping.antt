@@ -249,7 +249,7 @@ module _ (start : World) (now : ℕ) where
       told_in_three g h value answer more speaks_on (subst (λ (p : Protocol). ServesIn start now p g value answer h) (sym speaks) serves)
       (subst (λ (s : Shape). IsTold Three s answer more) (sym (common_shape value command common is)) got.told)
 
-  common_tells : (protocol : Protocol) (command : Command) (before after : Attendance) (l : Listening) (talk later : Talk) (v w : View) (value : Frame) (more : List ℕ)
+  pub common_tells : (protocol : Protocol) (command : Command) (before after : Attendance) (l : Listening) (talk later : Talk) (v w : View) (value : Frame) (more : List ℕ)
       → IsReady before l talk → IsCommon command → is_stranger before.asker ≡ false → is_listening l ≡ false → before.asker.protocol ≡ protocol
       → command_of value ≡ Ok command → after.asker ≡ before.asker → later.told ≡ talk.told
       → RespondsIn start now protocol (party v talk.listens) (heard_as before.asker.current (Ok command)) more (party w later.listens)

@@ -11,6 +11,8 @@ use Rattle.client_commands.specs.declared.protocols.Protocol.TheVariants.{Two}
 use Rattle.client_commands.specs.Courtesies.{ClientInfo, is_stranger}
 use Rattle.sentinel_core.specs.declared.serving.fault.ServeFault.{ServeFault}
 use Rattle.port_sessions.specs.Notes.{none_told, is_due, Notifies}
+use Rattle.port_sessions.specs.declared.limit.Reach.{Reach}
+use Rattle.port_sessions.specs.GoingOn as plain
 use Rattle.port_sessions.specs.Talks as talks
 use Rattle.port_sessions.specs.Talks.{Talk, party}
 use Rattle.resp2.specs.Framing.Frame.{spellings}
@@ -19,6 +21,7 @@ use Rattle.sentinel_cell.specs.Histories.{World}
 use Rattle.courteous_sessions.specs.Events.{told_of, event_told, is_any}
 use Rattle.courteous_sessions.specs.Retelling.{IsTold}
 use Rattle.courteous_sessions.specs.declared.shapes.Shape.TheVariants.{Pushes}
+use Rattle.courteous_sessions.specs.GoingOn.{GoesOn}
 use Rattle.courteous_sessions.specs.Visits.{unsubscribed, Visit, Guest, introduced, guest, Receives}
 use Rattle.courteous_sessions.specs.declared.client_session.ClientSession.{ClientSession}
 use Rattle.courteous_sessions.specs.declared.client_session.ClientSession.TheVariants.{Plain, Courteous}
@@ -145,6 +148,33 @@ module _ (start : World) (now : ℕ) (piece : List ℕ) (result : Result Unit Se
   Takes (Plain talk) (Courteous after) = ⊥
   Takes (Courteous visit) (Plain after) = ⊥
   Takes (Courteous visit) (Courteous after) = TakesCourteous visit after
+
+module _ (start : World) (now most : ℕ) (piece : List ℕ) (result : Result Reach ServeFault) (v w : View) where
+  -- a session without courtesies takes a piece, and answers so many values at most that may store
+  pub record TakesSomePlain (talk after : Talk) : Type 0 where
+    pub goes_on : talk.ended ≡ None → (more : List ℕ) × (after.unsent ≡ talk.unsent ++ more)
+        × plain.GoesOn start now most (talk.held ++ piece) (party v talk.listens) result after.held more (party w after.listens)
+    pub told : after.told ≡ talk.told
+    pub is_open : OnOk result (after.ended ≡ None)
+    pub closed : IfErr result (λ fault. after.ended ≡ Some fault)
+    pub emptied : OnErr result ((after.held ≡ []) × (after.listens ≡ None))
+    pub over : IfSome talk.ended (λ fault. (result ≡ Err fault) × (after ≡ talk) × (w ≡ v))
+
+  -- the same of a session with courtesies
+  pub record TakesSomeCourteous (visit after : Visit) : Type 0 where
+    pub goes_on : visit.ended ≡ None → (more : List ℕ) × (after.unsent ≡ visit.unsent ++ more)
+        × GoesOn start now most (visit.held ++ piece) (guest_at start visit v) result after.held more (guest_of_visit after w)
+    pub knows : OnOk result (after.knows_masters ≡ true)
+    pub is_open : OnOk result (after.ended ≡ None)
+    pub closed : IfErr result (λ fault. after.ended ≡ Some fault)
+    pub emptied : OnErr result ((after.held ≡ []) × (after.listening ≡ unsubscribed) × (after.listens ≡ None))
+    pub over : IfSome visit.ended (λ fault. (result ≡ Err fault) × (after ≡ visit) × (w ≡ v))
+
+  abbrev pub TakesSome : ClientSession → ClientSession → Type 0
+  TakesSome (Plain talk) (Plain after) = TakesSomePlain talk after
+  TakesSome (Plain talk) (Courteous after) = ⊥
+  TakesSome (Courteous visit) (Plain after) = ⊥
+  TakesSome (Courteous visit) (Courteous after) = TakesSomeCourteous visit after
 
 -- ---- notes
 

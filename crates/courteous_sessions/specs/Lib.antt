@@ -1,8 +1,10 @@
 pub mod Epochs
+pub mod Stores
 pub mod Nested
 pub mod Retelling
 pub mod Visits
 pub mod Events
 pub mod OnTheWay
+pub mod GoingOn
 pub mod Clients
 pub mod Laws

@@ -1,13 +1,13 @@
 //! A session with courtesies or without.
 
 ghost use Rattle.std.specs.Prelude.{◌≡◌, ◌≤◌, ◌<◌, ◌↔◌, [], IsTrue, length, drop};
-ghost use Rattle.courteous_sessions.specs.Clients.{begun, unsent_of, held_of, listens_of, owes_password, wanting_password, with_unsent, Takes, NotifiesClient, TellsClient, knowing_epoch, port_before, knowing_port, protocol_of, name_of, listening_of};
+ghost use Rattle.courteous_sessions.specs.Clients.{begun, unsent_of, held_of, listens_of, owes_password, wanting_password, with_unsent, Takes, TakesSome, NotifiesClient, TellsClient, knowing_epoch, port_before, knowing_port, protocol_of, name_of, listening_of};
 
 use crate::courteous_session::CourteousSession;
 use crate::epochs::FarRequest;
 use ballot_law::{NoMemory, Note, Roster, Text};
 use client_commands::{PortFacts, Protocol};
-use port_sessions::Session;
+use port_sessions::{Reach, Session};
 use pubsub::Event;
 use sentinel_cell::{Seat, SharedSentinel};
 use sentinel_conf::ConfStore;
@@ -139,6 +139,27 @@ impl ClientSession {
         match self {
             ClientSession::Plain(session) => session.received(rt, cell, seat, now, piece),
             ClientSession::Courteous(session) => session.received(rt, cell, seat, now, piece),
+        }
+    }
+
+    /// Takes the next piece, and answers only so many values that may store: as `Session::go_on` without courtesies,
+    /// and as `CourteousSession::go_on` with them.
+    pub fn go_on<S: ConfStore, R: Wait>(
+        &mut self,
+        rt: &R,
+        cell: &SharedSentinel<S>,
+        seat: &mut Seat,
+        now: u64,
+        piece: &[u8],
+        most: u64,
+    ) -> Result<Reach, ServeFault>
+        requires own { seat.old.cell ≡ cell.now.id }
+        ensures own { seat.new.cell ≡ seat.old.cell }
+        ensures takes { TakesSome cell.now.start now most piece.now result seat.old.view seat.new.view self.old self.new }
+    {
+        match self {
+            ClientSession::Plain(session) => session.go_on(rt, cell, seat, now, piece, most),
+            ClientSession::Courteous(session) => session.go_on(rt, cell, seat, now, piece, most),
         }
     }
 

@@ -4,12 +4,14 @@ ghost use Rattle.std.specs.Prelude.{◌≡◌, ◌≤◌, ◌<◌, ◌↔◌, �
 ghost use Rattle.pubsub.specs.Listening.{is_listening};
 ghost use Rattle.client_commands.specs.Courtesies.{is_stranger};
 ghost use Rattle.courteous_sessions.specs.Clients.{arrived, guest_at, guest_of_visit, wanting, NotifiesVisit, TellsVisit, knowing, knowing_of};
+ghost use Rattle.courteous_sessions.specs.GoingOn.{GoesOn};
 ghost use Rattle.courteous_sessions.specs.Visits.{unsubscribed, Receives};
 
 use crate::epochs::FarRequest;
 use crate::exchange::Exchange;
 use ballot_law::{NoMemory, Note, Roster, Text};
 use client_commands::{PortFacts, Protocol};
+use port_sessions::Reach;
 use pubsub::Event;
 use sentinel_cell::{Seat, SharedSentinel};
 use sentinel_conf::ConfStore;
@@ -170,6 +172,47 @@ impl CourteousSession {
         }
         match self.exchange.take_piece(rt, cell, seat, now, piece) {
             Ok(()) => Ok(()),
+            Err(fault) => {
+                self.exchange.close();
+                self.fault = Some(fault);
+                Err(fault)
+            }
+        }
+    }
+
+    /// Takes the next piece as `received` does, but answers only so many values that may store: FLUSHCONFIG and
+    /// requests for votes. `Done` where all whole values are answered. `Waits` where the next whole one may store, after
+    /// as many: it is held with what comes after it, and a further call goes on with it, also one with an empty piece.
+    ///
+    /// The faults are those of `received`, after which the session is ended as there.
+    pub fn go_on<S: ConfStore, R: Wait>(
+        &mut self,
+        rt: &R,
+        cell: &SharedSentinel<S>,
+        seat: &mut Seat,
+        now: u64,
+        piece: &[u8],
+        most: u64,
+    ) -> Result<Reach, ServeFault>
+        requires own { seat.old.cell ≡ cell.now.id }
+        ensures own { seat.new.cell ≡ seat.old.cell }
+        // The answers to values of the bytes held before and the piece join what is unsent, and the bytes after them
+        // are held.
+        ensures goes_on { self.old.ended ≡ None → (more : List ℕ) × (self.new.unsent ≡ self.old.unsent ++ more)
+            × GoesOn cell.now.start now most (self.old.held ++ piece.now)
+            (guest_at cell.now.start self.old seat.old.view) result self.new.held more (guest_of_visit self.new seat.new.view) }
+        ensures knows { OnOk result (self.new.knows_masters ≡ true) }
+        ensures open { OnOk result (self.new.ended ≡ None) }
+        ensures closed { IfErr result (λ fault. self.new.ended ≡ Some fault) }
+        ensures emptied { OnErr result ((self.new.held ≡ []) × (self.new.listening ≡ unsubscribed) × (self.new.listens ≡ None)) }
+        // An ended session answers its fault, and nothing else happens.
+        ensures ended { IfSome self.old.ended (λ fault. (result ≡ Err fault) × (self.new ≡ self.old) × (seat.new ≡ seat.old)) }
+    {
+        if let Some(fault) = self.fault {
+            return Err(fault);
+        }
+        match self.exchange.take_some(rt, cell, seat, now, piece, most) {
+            Ok(progress) => Ok(progress),
             Err(fault) => {
                 self.exchange.close();
                 self.fault = Some(fault);

@@ -258,7 +258,10 @@ impl Exchange {
     }
 
     /// Has it know the masters of the Sentinel, where it doesn't yet.
-    fn learn_masters<S: ConfStore>(&mut self, cell: &SharedSentinel<S>) -> Result<(), ServeFault>
+    pub(crate) fn learn_masters<S: ConfStore>(
+        &mut self,
+        cell: &SharedSentinel<S>,
+    ) -> Result<(), ServeFault>
         ensures attendant { OnOk result (self.new.attendant ≡ record self.old.attendant {
           asker = introduced cell.now.start self.old.knows_masters self.old.attendant.asker;
         }) }
@@ -399,7 +402,7 @@ impl Exchange {
     }
 
     /// Puts out the line of a frame's fault, and gives the fault that ends the session.
-    fn refuse(&mut self, fault: FrameFault) -> ServeFault
+    pub(crate) fn refuse(&mut self, fault: FrameFault) -> ServeFault
         ensures attendant { self.new.attendant ≡ self.old.attendant }
         ensures session { self.new.session ≡ self.old.session }
         ensures kept { (self.new.knows_masters ≡ self.old.knows_masters) × (self.new.subscriptions ≡ self.old.subscriptions) }
@@ -593,7 +596,7 @@ impl Exchange {
 
     /// Takes the first value of the bytes that came, where it is a command that comes nearly always and the session
     /// answers it: no password is wanted that the client didn't give, and the connection listens to nothing.
-    fn next_common(&mut self) -> Option<Command>
+    pub(crate) fn next_common(&mut self) -> Option<Command>
         ensures taken { IfSome result (TakesCommon self.old.attendant.held self.new.attendant.held) }
         ensures common { IfSome result (λ command. IsCommon command × IsWithin command) }
         ensures plain { IfSome result (λ command. (is_stranger self.old.attendant.asker ≡ false) × (is_listening self.old.subscriptions ≡ false)) }

@@ -12,6 +12,7 @@ mod client_session;
 mod courteous_session;
 mod epochs;
 mod exchange;
+mod going_on;
 mod hearing;
 mod laws;
 mod nested;
@@ -29,3 +30,4 @@ pub use laws::{
     law_pieces_join, law_protocols_say_the_same, law_protocols_tell_the_same_answers,
     law_strangers_take_no_turn,
 };
+pub use port_sessions::Reach;

@@ -3,6 +3,8 @@ pub mod Listening
 pub mod Turning
 pub mod Replying
 pub mod Stepping
+pub mod GoingOn
 pub mod Joining
 pub mod Served
 pub mod Told
+pub mod Storing

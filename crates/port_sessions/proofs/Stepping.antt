@@ -19,7 +19,7 @@ use Rattle.port_sessions.specs.Talks.{Party, Responds, Fails, AnswersTo, IsAnswe
 use Rattle.port_sessions.specs.OnTheWay.{IsOnTheWay, IsDone, Steps, Drains, Refuses, Takes}
 
 module _ (start : World) (now : ℕ) where
-  answers-push : (p : Party) (values : List Frame) (bytes : List ℕ) (m : Party) (value : Frame) (more : List ℕ) (q : Party) → AnswersTo start now p values bytes m
+  pub answers-push : (p : Party) (values : List Frame) (bytes : List ℕ) (m : Party) (value : Frame) (more : List ℕ) (q : Party) → AnswersTo start now p values bytes m
       → Responds start now m (command_of value) more q → AnswersTo start now p (values ++ value ∷ []) (bytes ++ more) q
   answers-push p [] bytes m value more q a r =
       (q, more, [], ap (λ (t : List ℕ). t ++ more) a.0 ∙ sym (append-nil more), subst (λ (x : Party). Responds start now x (command_of value) more q) a.1 r, (refl, refl))

@@ -1,5 +1,5 @@
 -- What the answers of a session are to the answers of a stream, and to its pieces; and what a note is to the notes behind it.
-use Rattle.std.specs.Prelude.{◌≡◌, ◌≢◌, ◌<◌, ◌≤◌, ◌⊎◌, ◌++◌, ℕ, false, List, length}
+use Rattle.std.specs.Prelude.{◌≡◌, ◌≢◌, ◌<◌, ◌≤◌, ◌⊎◌, ◌++◌, ℕ, false, List, Ok, length}
 use Rattle.ballot_law.specs.declared.messages.Note.{Note}
 use Rattle.ballot_law.specs.Rosters.{Roster}
 use Rattle.sentinel_core.specs.Serving.Serving.{replied}
@@ -9,7 +9,11 @@ use Rattle.sentinel_cell.specs.declared.entry.Entry.{Entry}
 use Rattle.sentinel_cell.specs.declared.view.View.{View}
 use Rattle.sentinel_cell.specs.Calls.{Begins}
 use Rattle.sentinel_cell.specs.Histories.{World, IsLegal, replay}
+use Rattle.ballot_law.specs.declared.commands.Command.{Command}
+use Rattle.sentinel_rules.specs.Answers.{commanded}
+use Rattle.sentinel_rules.specs.Plans.{Plan}
 use Rattle.sentinel_rules.specs.States.{Core}
+use Rattle.port_sessions.specs.Stores.{may_store}
 use Rattle.port_sessions.specs.Notes.{is_due, notified}
 use Rattle.port_sessions.specs.Talks.{Talk, Party, Replies, IsAnswered}
 
@@ -38,3 +42,8 @@ NotesRise =
     (roster : Roster) (note other : Note) (entry : ℕ) (talk : Talk) → note.master < length talk.told
     → (other.master ≡ note.master → other.card.epoch ≤ note.card.epoch → is_due (notified roster note talk) other entry ≡ false)
     × (other.master ≢ note.master → is_due (notified roster note talk) other entry ≡ is_due talk other entry)
+
+-- by the rules a command that may not store leaves what is kept as it was
+abbrev pub OthersStoreNothing : Type 0
+OthersStoreNothing =
+    (plan : Plan) (now : ℕ) (command : Command) (core : Core) → may_store (Ok command) ≡ false → (commanded plan now command core).core.kept ≡ core.kept

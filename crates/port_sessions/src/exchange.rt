@@ -8,6 +8,7 @@ ghost use Rattle.ballot_law.specs.Limits.{IsWithin};
 ghost use Rattle.port_sessions.specs.Talks.{Party, party, Ends};
 ghost use Rattle.port_sessions.specs.OnTheWay.{IsOnTheWay, Steps, Drains, Refuses, Takes};
 
+use crate::limit::Limit;
 use crate::responder::Responder;
 use ballot_law::{Command, NoMemory, Note, Roster};
 use bytes::BytesMut;
@@ -132,7 +133,7 @@ impl Exchange {
     }
 
     /// Puts out the line of a frame's fault, and gives the fault that ends the session.
-    fn refuse(&mut self, fault: FrameFault) -> ServeFault
+    pub(crate) fn refuse(&mut self, fault: FrameFault) -> ServeFault
         ensures frames { self.new.frames ≡ self.old.frames }
         ensures listens { self.new.responder.listens ≡ self.old.responder.listens }
         ensures refused { (line : List ℕ) × (self.new.unsent.items ≡ self.old.unsent.items ++ line) × Refuses fault line result }
@@ -144,6 +145,13 @@ impl Exchange {
             return ServeFault::NoMemory;
         }
         ServeFault::Frame(fault)
+    }
+
+    /// A limit of so many values that may store, which stands where the next value begins.
+    pub(crate) fn limit_to(&self, most: u64) -> Result<Limit, NoMemory>
+        ensures { IfOk result (λ limit. (limit.mark ≡ reading (bytes_in self.now.frames)) × (limit.most ≡ most)) }
+    {
+        Limit::new(self.alloc, self.frames.held(), most)
     }
 
     /// Answers this command, or a value that is none for this reason.

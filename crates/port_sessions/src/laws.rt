@@ -1,7 +1,7 @@
 //! What the answers of a session are to the answers of a stream, and to its pieces; and what a note is to the notes
 //! behind it.
 
-ghost use Rattle.port_sessions.specs.Laws.{AnswersAreServed, PiecesJoin, NotesRise};
+ghost use Rattle.port_sessions.specs.Laws.{AnswersAreServed, PiecesJoin, NotesRise, OthersStoreNothing};
 
 /// Each answer of a session that doesn't listen is the one that `Sentinel::serve` writes for the same value: of a
 /// Sentinel that keeps what is stored after a legal history, which begins with all that the seat had seen; or, where no
@@ -22,4 +22,9 @@ pub fn law_pieces_join()
 /// a note of another master is due is as it was before. So the epochs that a client is told of a master rise.
 pub fn law_notes_rise()
     ensures { NotesRise }
+{}
+
+/// By the rules of a Sentinel every command but those that `may_store` tells leaves what the Sentinel keeps as it was.
+pub fn law_others_store_nothing()
+    ensures { OthersStoreNothing }
 {}

@@ -21,12 +21,18 @@
 //! `Listening`, and which notes it is told in `Notes`.
 #![tactic(auto)]
 
+mod ahead;
 mod exchange;
+mod going_on;
 mod laws;
+mod limit;
 mod notes;
 mod responder;
 mod session;
 
-pub use laws::{law_answers_are_served, law_notes_rise, law_pieces_join};
+pub use laws::{
+    law_answers_are_served, law_notes_rise, law_others_store_nothing, law_pieces_join,
+};
+pub use limit::{Limit, Reach, may_store};
 pub use notes::add_note;
 pub use session::Session;

@@ -4,10 +4,12 @@ ghost use Rattle.std.specs.Prelude.{◌≡◌, ◌≤◌, ◌<◌, ◌↔◌, �
 ghost use Rattle.std.specs.Option.{is_some};
 ghost use Rattle.ballot_law.specs.declared.rosters.TheConstants.{MASTERS_MAX};
 ghost use Rattle.port_sessions.specs.Notes.{none_told, is_due, Notifies};
+ghost use Rattle.port_sessions.specs.GoingOn.{GoesOn};
 ghost use Rattle.port_sessions.specs.Talks.{EndsSession, Receives, party};
 ghost use Rattle.ballot_law.specs.Limits.{IsWithin};
 
 use crate::exchange::Exchange;
+use crate::limit::Reach;
 use ballot_law::{Command, MASTERS_MAX, NoMemory, Note, Roster};
 use resp2::CommandFault;
 use sentinel_cell::{Seat, SharedSentinel};
@@ -104,6 +106,46 @@ impl Session {
         }
         match self.exchange.take_piece(rt, cell, seat, now, piece) {
             Ok(()) => Ok(()),
+            Err(fault) => {
+                self.exchange.close();
+                self.fault = Some(fault);
+                Err(fault)
+            }
+        }
+    }
+
+    /// Takes the next piece as `received` does, but answers only so many values that may store: FLUSHCONFIG and
+    /// requests for votes. `Done` where all whole values are answered. `Waits` where the next whole one may store, after
+    /// as many: it is held with what stands behind it, and a further call goes on with it, also one with an empty piece.
+    ///
+    /// The faults are those of `received`, after which the session is ended as there.
+    pub fn go_on<S: ConfStore, R: Wait>(
+        &mut self,
+        rt: &R,
+        cell: &SharedSentinel<S>,
+        seat: &mut Seat,
+        now: u64,
+        piece: &[u8],
+        most: u64,
+    ) -> Result<Reach, ServeFault>
+        requires own { seat.old.cell ≡ cell.now.id }
+        ensures own { seat.new.cell ≡ seat.old.cell }
+        // The answers to values of the bytes held before and the piece join what is unsent, and the bytes behind them
+        // are held.
+        ensures goes_on { self.old.ended ≡ None → (more : List ℕ) × (self.new.unsent ≡ self.old.unsent ++ more)
+            × GoesOn cell.now.start now most (self.old.held ++ piece.now) (party seat.old.view self.old.listens) result self.new.held more (party seat.new.view self.new.listens) }
+        ensures told { self.new.told ≡ self.old.told }
+        ensures open { OnOk result (self.new.ended ≡ None) }
+        ensures closed { IfErr result (λ fault. self.new.ended ≡ Some fault) }
+        ensures emptied { OnErr result ((self.new.held ≡ []) × (self.new.listens ≡ None)) }
+        // An ended session answers its fault, and nothing else happens.
+        ensures ended { IfSome self.old.ended (λ fault. (result ≡ Err fault) × (self.new ≡ self.old) × (seat.new ≡ seat.old)) }
+    {
+        if let Some(fault) = self.fault {
+            return Err(fault);
+        }
+        match self.exchange.take_some(rt, cell, seat, now, piece, most) {
+            Ok(progress) => Ok(progress),
             Err(fault) => {
                 self.exchange.close();
                 self.fault = Some(fault);

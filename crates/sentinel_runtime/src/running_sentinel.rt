@@ -9,7 +9,7 @@ ghost use Rattle.ballot_law.specs.declared.messages.Note.{Note};
 ghost use Rattle.sentinel_runtime.specs.Running.{input_of, phase_of, IsLeftByTurns};
 ghost use Rattle.sentinel_runtime.specs.Saying.{IsNoted, IsReleased, IsSaid, MayNote};
 ghost use Rattle.sentinel_runtime.specs.declared.news.TheConstants.{EVENTS_MAX, WAITING_MAX};
-ghost use Rattle.courteous_sessions.specs.Clients.{informed, Takes, NotifiesClient};
+ghost use Rattle.courteous_sessions.specs.Clients.{informed, TakesSome, NotifiesClient};
 ghost use Rattle.sentinel_cell.specs.declared.entry.Outcome.TheVariants.{Stored};
 ghost use Rattle.sentinel_cell.specs.Standing.{Adds, Faulted};
 ghost use Rattle.sentinel_rules.specs.Plans.{group_size, master_count, roster_of};
@@ -24,7 +24,7 @@ use crate::sight::Sight;
 use crate::switches::Switch;
 use crate::ticking::TICK_MS;
 use ballot_law::{Event, Input, NoMemory, Output, Roster};
-use courteous_sessions::{ClientSession, FarRequest};
+use courteous_sessions::{ClientSession, FarRequest, Reach};
 use log::kv::With;
 use log::{Log, Span};
 use mio::Waker;
@@ -429,9 +429,9 @@ impl<J: Which, S: ConfStore> RunningSentinel<J, S> {
         session.notify(roster, &switch.note, switch.entry)
     }
 
-    /// Hands a session the next piece of its stream, at a reading of the clock in milliseconds: all that
-    /// `ClientSession::received` says of it holds of this Sentinel. Where `guard_epochs` was called, the session is
-    /// told before that from which epoch requests for votes count.
+    /// Hands a session the next piece of its stream, at a reading of the clock in milliseconds, for so many answers
+    /// that may be stored: all that `ClientSession::go_on` says of it holds of this Sentinel. Where `guard_epochs` was
+    /// called, the session is told before that from which epoch requests for votes count.
     pub fn receive<R: Wait>(
         &self,
         rt: &R,
@@ -439,11 +439,12 @@ impl<J: Which, S: ConfStore> RunningSentinel<J, S> {
         session: &mut ClientSession,
         now: u64,
         piece: &[u8],
-    ) -> Result<(), ServeFault>
-        ensures { (known : Option ℕ) × Takes self.now.cell.start now piece.now result seat.old.seat.view seat.new.seat.view (informed session.old known) session.new }
+        most: u64,
+    ) -> Result<Reach, ServeFault>
+        ensures { (known : Option ℕ) × TakesSome self.now.cell.start now most piece.now result seat.old.seat.view seat.new.seat.view (informed session.old known) session.new }
     {
         self.inform(session);
-        let received = session.received(rt, &self.cell, &mut seat.seat, now, piece);
+        let received = session.go_on(rt, &self.cell, &mut seat.seat, now, piece, most);
         if let Some(request) = session.take_far() {
             *self.far.lock(rt) = Some(request);
         }

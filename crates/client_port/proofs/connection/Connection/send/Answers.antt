@@ -10,8 +10,8 @@ pub returns-in-Err : goal.returns-in-Err
 returns-in-Err g c =
     record {
       sent = sent_twice _ _ _ _ _ _ c.loop.invariant.0 c.write.ensures.sent;
-      read = c.write.ensures.read ∙ c.loop.invariant.1;
+      waits = c.write.ensures.waits ∙ c.loop.invariant.1;
     }
 
 pub loop-preserved : goal.loop-preserved
-loop-preserved g c = (sent_twice _ _ _ _ _ _ c.loop.invariant.0 c.write.ensures.sent, c.write.ensures.read ∙ c.loop.invariant.1)
+loop-preserved g c = (sent_twice _ _ _ _ _ _ c.loop.invariant.0 c.write.ensures.sent, c.write.ensures.waits ∙ c.loop.invariant.1)

@@ -1,0 +1,314 @@
+-- One value more within a limit, and the ends of a piece.
+use Rattle.std.proofs.Common.{◌≡◌, ◌≢◌, ◌⊎◌, ◌≤◌, ◌<◌, ◌+◌, ℕ, Bool, true, false, List, [], ◌∷◌, ◌++◌, Option, Some, None, Result, Ok, Err, refl, sym, ap, ◌∙◌, subst, inl, inr, append_assoc, append-nil, true≢false, arith}
+use Rattle.std.specs.Prelude.{OnOk, OnErr, is_err}
+use Rattle.ballot_law.specs.Limits as limits
+use Rattle.pubsub.specs.Listening.{Listening, is_listening}
+use Rattle.client_commands.specs.Attendants.{Attendance, TakesCommon}
+use Rattle.client_commands.specs.Courtesies.{ClientInfo, is_stranger}
+use Rattle.client_commands.specs.Lines.{Reads, value_at, IsLineOf, Answers}
+use Rattle.client_commands.proofs.LineStreams.{reads_next, spelled_or_line}
+use Rattle.sentinel_core.specs.declared.serving.fault.ServeFault.{ServeFault}
+use Rattle.sentinel_core.specs.declared.serving.fault.ServeFault.TheVariants.{Frame as FaultyFrame, Read, Write, Halted as ServeHalted, NoMemory as OutOfMemory}
+use Rattle.sentinel_core.specs.Serving.Serving.{last_line}
+use Rattle.port_sessions.specs.declared.limit.Reach.{Reach}
+use Rattle.port_sessions.specs.declared.limit.Reach.TheVariants.{Done, Waits}
+use Rattle.port_sessions.specs.Stores.{may_store, one_if}
+use Rattle.port_sessions.specs.Talks.{Talk, party}
+use Rattle.ballot_law.specs.declared.commands.Command.{Command}
+use Rattle.resp2.specs.Asked.{IsCommon}
+use Rattle.resp2.specs.Commands.{redis_command_of}
+use Rattle.resp2.specs.declared.command.CommandFault.{CommandFault}
+use Rattle.resp2.specs.declared.framing.fault.FrameFault.{FrameFault}
+use Rattle.resp2.specs.declared.framing.fault.FrameFault.TheVariants.{NoMemory}
+use Rattle.resp2.specs.declared.framing.fault.Unread.TheVariants.{NeedsMore, Faulty}
+use Rattle.resp2.specs.declared.framing.value.Value.{Value}
+use Rattle.resp2.specs.Framing.Frame.{Frame, view, spelling, HasLines}
+use Rattle.resp2.specs.Framing.Stream.{Held, reading, ended, bytes_in, held_size}
+use Rattle.resp2.proofs.Switches.{known_too}
+use Rattle.sentinel_cell.specs.declared.view.View.{View}
+use Rattle.sentinel_cell.specs.Histories.{World}
+use Rattle.courteous_sessions.specs.Epochs.{heard_as}
+use Rattle.courteous_sessions.specs.Stores.{value_may_store, stores_among, IsStoreNext}
+use Rattle.courteous_sessions.specs.Visits.{Guest, guest, introduced, Tells}
+use Rattle.courteous_sessions.specs.OnTheWay.{IsIdle, IsReady, IsOnTheWay, RespondsIn, Refuses, guest_of}
+use Rattle.courteous_sessions.specs.GoingOn.{IsWithin, IsCommonAhead, IsValueAhead, Stops, StepsWithin, DrainsWithin, BreaksWithin, GoesOn}
+use Rattle.courteous_sessions.proofs.Serving.{was_read, serves-push, shows_fault}
+use Rattle.courteous_sessions.proofs.Stepping.{common_tells}
+
+-- ---- a reader that stands before a value
+
+-- a value was taken off the front
+suffix : (bytes : List ℕ) (value : Frame) (rest : List ℕ) → (bytes ≡ spelling value ++ rest) ⊎ IsLineOf bytes value rest → (front : List ℕ) × (bytes ≡ front ++ rest)
+suffix bytes value rest (inl spelled) = (spelling value, spelled)
+suffix bytes value rest (inr it) = (it.line ++ 10 ∷ [], it.text ∙ sym (append_assoc it.line (10 ∷ []) rest))
+
+-- the mark stands behind it again
+pub marked_after : (held mark moved after : Held) (value : Frame) (rest : List ℕ) → held ≡ reading (bytes_in held) → mark ≡ held
+    → value_at (bytes_in held) ≡ Ok (value, rest) → after ≡ reading rest
+    → ((front : List ℕ) → mark ≡ reading (front ++ bytes_in after) → moved ≡ reading (bytes_in after)) → moved ≡ after
+marked_after held mark moved after value rest is stands found behind moves =
+    let same : rest ≡ bytes_in after = sym (ap bytes_in behind) in
+    let front = suffix (bytes_in held) value rest (spelled_or_line (bytes_in held) value rest found).0 in
+    let at = stands ∙ is ∙ ap reading (front.1 ∙ ap (λ (t : List ℕ). front.0 ++ t) same) in
+    moves front.0 at ∙ sym (behind ∙ ap reading same)
+
+-- what stands next, where it is answered
+pub value_is_ahead : (value : Value) (more fewer : ℕ) (held mark moved after same : Held) (asked : Result Command CommandFault) → held ≡ reading (bytes_in held) → mark ≡ held
+    → Answers view held (Ok (Some value)) after → HasLines (view value) → held_size after < held_size held → asked ≡ redis_command_of (view value)
+    → more ≡ one_if (may_store asked) + fewer → same ≡ after
+    → ((front : List ℕ) → mark ≡ reading (front ++ bytes_in after) → moved ≡ reading (bytes_in after)) → IsValueAhead more held value fewer moved same
+value_is_ahead value more fewer held mark moved after same asked is stands given lines smaller asks counts left moves =
+    let at = was_read view held value after is given in
+    subst (λ (h : Held). IsValueAhead more held value fewer moved h) (sym left) (record {
+      given = given;
+      lines = lines;
+      counts = counts ∙ ap (λ (k : Result Command CommandFault). one_if (may_store k) + fewer) asks;
+      marks = marked_after held mark moved after (view value) at.0 is stands at.1 at.2 moves;
+      smaller = smaller;
+    })
+
+pub common_is_ahead : (asker : ClientInfo) (l : Listening) (command : Command) (more fewer : ℕ) (held mark moved after same : Held) → held ≡ reading (bytes_in held) → mark ≡ held
+    → TakesCommon held after command → IsCommon command × limits.IsWithin command → (is_stranger asker ≡ false) × (is_listening l ≡ false) → held_size after < held_size held
+    → more ≡ one_if (may_store (Ok command)) + fewer → same ≡ after
+    → ((front : List ℕ) → mark ≡ reading (front ++ bytes_in after) → moved ≡ reading (bytes_in after)) → IsCommonAhead asker l more held command fewer moved same
+common_is_ahead asker l command more fewer held mark moved after same is stands taken common plain smaller counts left moves =
+    subst (λ (h : Held). IsCommonAhead asker l more held command fewer moved h) (sym left) (record {
+      taken = taken;
+      common = common.0;
+      within = common.1;
+      known = plain.0;
+      quiet = plain.1;
+      counts = counts;
+      marks = marked_after held mark moved after taken.value taken.rest is stands (ap value_at (ap bytes_in taken.held_is) ∙ taken.found) taken.left moves;
+      smaller = smaller;
+    })
+
+-- a command that may store and has to wait
+pub common_is_next : (command : Command) (more : ℕ) (held mark after left : Held) → mark ≡ held → TakesCommon held after command
+    → (may_store (Ok command) ≡ true) × (more ≡ 0) × (left ≡ mark) → (more ≡ 0) × (left ≡ held) × IsStoreNext (bytes_in held)
+common_is_next command more held mark after left stands taken waits = (
+  waits.1,
+  waits.2 ∙ stands,
+  record {
+    value = taken.value;
+    rest = taken.rest;
+    found = ap value_at (ap bytes_in taken.held_is) ∙ taken.found;
+    stores = ap may_store (known_too taken.value command taken.asked) ∙ waits.0;
+  },
+)
+
+pub guest_same : (before mid : Attendance) (l same_l : Listening) (talk same : Talk) (v : View) → mid.asker ≡ before.asker → same_l ≡ l → same ≡ talk
+    → guest_of before l talk v ≡ guest_of mid same_l same v
+guest_same before mid l same_l talk same v a b c =
+    ap (λ (x : ClientInfo). guest (party v talk.listens) l talk.told x) (sym a)
+    ∙ ap (λ (x : Listening). guest (party v talk.listens) x talk.told mid.asker) (sym b)
+    ∙ ap (λ (t : Talk). guest (party v t.listens) same_l t.told mid.asker) (sym c)
+
+-- ---- how many values may store
+
+among-push : (values : List Frame) (value : Frame) → stores_among (values ++ value ∷ []) ≡ stores_among values + one_if (value_may_store value)
+among-push [] value = omega arith
+among-push (x ∷ xs) value = omega (arith, among-push xs value)
+
+-- a command that was taken where it stands is one of the session below
+pub stores_too : (value : Frame) (command : Command) (more fewer : ℕ) → redis_command_of value ≡ Ok command → more ≡ one_if (may_store (Ok command)) + fewer
+    → more ≡ one_if (value_may_store value) + fewer
+stores_too value command more fewer is counts = counts ∙ ap (λ (k : Result Command CommandFault). one_if (may_store k) + fewer) (sym is)
+
+module _ (start : World) (now : ℕ) (most : ℕ) (stream : List ℕ) (g : Guest) where
+  few : (more : ℕ) (held : Held) (bytes : List ℕ) (m : Guest) (a : IsWithin start now most stream g more held bytes m) → stores_among a.so_far.values ≤ most
+  few more held bytes m a = omega (arith, a.count)
+
+  -- a value was answered
+  served_within : (more fewer : ℕ) (held after : Held) (bytes : List ℕ) (m : Guest) (value : Frame) (rest text : List ℕ) (h : Guest)
+      → IsWithin start now most stream g more held bytes m → value_at (bytes_in held) ≡ Ok (value, rest) → after ≡ reading rest
+      → more ≡ one_if (value_may_store value) + fewer → Tells start now m value text h → IsWithin start now most stream g fewer after (bytes ++ text) h
+  served_within more fewer held after bytes m value rest text h a found is counts tells =
+      let so_far = a.so_far in
+      let now_held : bytes_in held ≡ so_far.rest = ap bytes_in so_far.held_is in
+      record {
+        so_far = record {
+          values = so_far.values ++ value ∷ [];
+          rest = rest;
+          held_is = is;
+          parts = reads_next stream so_far.values so_far.rest value rest so_far.parts (ap value_at (sym now_held) ∙ found);
+          answers = serves-push start now g so_far.values bytes m value text h so_far.answers tells;
+        };
+        count = omega (arith, among-push so_far.values value, a.count, counts);
+      }
+
+  -- it was a command that comes nearly always
+  pub common_within : (command : Command) (first bytes : List ℕ) (before after : Attendance) (l later_l : Listening) (unsent put : List ℕ) (talk later : Talk) (v w : View)
+      (more fewer : ℕ) (mark : Held) → unsent ≡ first ++ bytes → IsWithin start now most stream g more before.held bytes (guest_of before l talk v) → IsReady before l talk
+      → IsCommonAhead before.asker l more before.held command fewer mark after.held → after.asker ≡ before.asker → later_l ≡ l → later.told ≡ talk.told
+      → (text : List ℕ) × (put ≡ unsent ++ text) × IsIdle later
+      × RespondsIn start now before.asker.protocol (party v talk.listens) (heard_as before.asker.current (Ok command)) text (party w later.listens)
+      → (text : List ℕ) × (put ≡ first ++ text) × IsWithin start now most stream g fewer after.held text (guest_of after later_l later w)
+  common_within command first bytes before after l later_l unsent put talk later v w more fewer mark is a ready ahead asker same told got =
+      let taken = ahead.taken in
+      let value = taken.value in
+      let tells = common_tells start now before.asker.protocol command before after l talk later v w value got.0 ready ahead.common ahead.known ahead.quiet refl taken.asked asker
+      told got.3 in
+      let there = subst (λ (x : Listening). Tells start now (guest_of before l talk v) value got.0 (guest_of after x later w)) (sym same) tells in
+      let found = ap value_at (ap bytes_in taken.held_is) ∙ taken.found in (
+        bytes ++ got.0,
+        got.1 ∙ ap (λ (t : List ℕ). t ++ got.0) is ∙ append_assoc first bytes got.0,
+        served_within more fewer before.held after.held bytes (guest_of before l talk v) value taken.rest got.0 (guest_of after later_l later w) a found taken.left
+            (stores_too value command more fewer (known_too value command taken.asked) ahead.counts) there,
+      )
+
+  -- it was any value
+  pub value_within : (value : Value) (first bytes : List ℕ) (before between after : Attendance) (l later_l : Listening) (unsent put : List ℕ) (talk later : Talk) (v w : View)
+      (more fewer : ℕ) (mark : Held) → unsent ≡ first ++ bytes → IsWithin start now most stream g more before.held bytes (guest_of before l talk v) → IsReady before l talk
+      → IsValueAhead more before.held value fewer mark between.held → between.asker ≡ before.asker → after.held ≡ between.held
+      → (text : List ℕ) × (put ≡ unsent ++ text) × IsReady after later_l later
+      × Tells start now (guest_of between l talk v) (view value) text (guest_of after later_l later w)
+      → (text : List ℕ) × (put ≡ first ++ text) × IsWithin start now most stream g fewer after.held text (guest_of after later_l later w)
+  value_within value first bytes before between after l later_l unsent put talk later v w more fewer mark is a ready ahead asker held got =
+      let at = was_read view before.held value between.held ready.reads ahead.given in
+      let same : guest_of between l talk v ≡ guest_of before l talk v = ap (λ (x : ClientInfo). guest (party v talk.listens) l talk.told x) asker in
+      let tells = subst (λ (x : Guest). Tells start now x (view value) got.0 (guest_of after later_l later w)) same got.3 in (
+        bytes ++ got.0,
+        got.1 ∙ ap (λ (t : List ℕ). t ++ got.0) is ∙ append_assoc first bytes got.0,
+        served_within more fewer before.held after.held bytes (guest_of before l talk v) (view value) at.0 got.0 (guest_of after later_l later w) a at.1 (held ∙ at.2) ahead.counts
+            tells,
+      )
+
+  -- a growth was refused, or a turn
+  cut_at : (more : ℕ) (held : Held) (bytes : List ℕ) (m : Guest) (fault : ServeFault) → IsWithin start now most stream g more held bytes m
+      → (fault ≡ ServeHalted) ⊎ (fault ≡ OutOfMemory) → BreaksWithin start now most stream g fault bytes
+  cut_at more held bytes m fault a (inl is) =
+      let so_far = a.so_far in
+      let cut : BreaksWithin start now most stream g ServeHalted bytes =
+      (record { values = so_far.values; rest = so_far.rest; parts = so_far.parts; last = m; answers = so_far.answers }, few more held bytes m a)
+      in
+      subst (λ (f : ServeFault). BreaksWithin start now most stream g f bytes) (sym is) cut
+  cut_at more held bytes m fault a (inr is) =
+      let so_far = a.so_far in
+      let cut : BreaksWithin start now most stream g OutOfMemory bytes =
+      (record { values = so_far.values; rest = so_far.rest; parts = so_far.parts; last = m; answers = so_far.answers }, few more held bytes m a)
+      in
+      subst (λ (f : ServeFault). BreaksWithin start now most stream g f bytes) (sym is) cut
+
+  pub cut_within : (more : ℕ) (held : Held) (bytes : List ℕ) (m : Guest) (fault : ServeFault) (before unsent put : List ℕ) → unsent ≡ before ++ bytes
+      → IsWithin start now most stream g more held bytes m → (fault ≡ ServeHalted) ⊎ (fault ≡ OutOfMemory) → put ≡ unsent
+      → (text : List ℕ) × (put ≡ before ++ text) × BreaksWithin start now most stream g fault text
+  cut_within more held bytes m fault before unsent put is a why same = (bytes, same ∙ is, cut_at more held bytes m fault a why)
+
+  -- none is whole
+  pub finished : (more : ℕ) (held after : Held) (bytes : List ℕ) (h : Guest) → IsWithin start now most stream g more held bytes h
+      → Answers {V = Value} view held (Ok None) after → Stops start now most stream g Done after bytes h
+  finished more (reading held) after bytes h a given =
+      let same : held ≡ a.so_far.rest = ap bytes_in a.so_far.held_is in (
+        held,
+        given.1,
+        record {
+          answered = record {
+            values = a.so_far.values;
+            splits = (a.so_far.rest, a.so_far.parts, (sym same, ap value_at (sym same) ∙ given.0));
+            answers = a.so_far.answers;
+          };
+          few = few more (reading held) bytes h a;
+        },
+      )
+  finished more (ended fault) after bytes h a given = absurd (let no = a.so_far.held_is in cc)
+
+  -- the next one is put off
+  pub put_off : (more : ℕ) (held after : Held) (bytes : List ℕ) (h : Guest) → IsWithin start now most stream g more held bytes h
+      → (more ≡ 0) × (after ≡ held) × IsStoreNext (bytes_in held) → Stops start now most stream g Waits after bytes h
+  put_off more held after bytes h a given =
+      let rest : bytes_in held ≡ a.so_far.rest = ap bytes_in a.so_far.held_is in (
+        a.so_far.rest,
+        given.1 ∙ a.so_far.held_is,
+        record {
+          values = a.so_far.values;
+          parts = a.so_far.parts;
+          answers = a.so_far.answers;
+          all = omega (arith, a.count, given.0);
+          next = subst IsStoreNext rest given.2;
+        },
+      )
+
+  -- a fault shows after the values that were answered
+  pub refused_within : (more : ℕ) (held after : Held) (bytes : List ℕ) (m : Guest) (fault : FrameFault) (before unsent put : List ℕ) (why : ServeFault)
+      → unsent ≡ before ++ bytes → IsWithin start now most stream g more held bytes m → held ≡ reading (bytes_in held) → Answers {V = Value} view held (Err fault) after
+      → (line : List ℕ) × (put ≡ unsent ++ line) × Refuses fault line why
+      → (text : List ℕ) × (put ≡ before ++ text) × BreaksWithin start now most stream g why text
+  refused_within more held after bytes m fault before unsent put why is a open_is given (line, put_is, inl memory) = (
+    bytes,
+    put_is ∙ ap (λ (t : List ℕ). unsent ++ t) memory.1 ∙ append-nil unsent ∙ is,
+    cut_at more held bytes m why a (inr memory.0),
+  )
+  refused_within more held after bytes m fault before unsent put why is a open_is given (line, put_is, inr shows) =
+      let so_far = a.so_far in
+      let now_held : bytes_in held ≡ so_far.rest = ap bytes_in so_far.held_is in
+      let refused : BreaksWithin start now most stream g (FaultyFrame fault) (bytes ++ line) = (
+        record {
+          values = so_far.values;
+          splits = (so_far.rest, so_far.parts, ap value_at (sym now_held) ∙ shows_fault start now view held fault after open_is shows.0 given);
+          text = bytes;
+          bytes_are = ap (λ (t : List ℕ). bytes ++ t) shows.2;
+          last = m;
+          answers = so_far.answers;
+        },
+        few more held bytes m a,
+      )
+      in (
+        bytes ++ line,
+        put_is ∙ ap (λ (t : List ℕ). t ++ line) is ∙ append_assoc before bytes line,
+        subst (λ (f : ServeFault). BreaksWithin start now most stream g f (bytes ++ line)) (sym shows.1) refused,
+      )
+
+  -- ---- a whole piece
+
+  pub went_on : (next : Option Reach) (more : ℕ) (held : Held) (bytes : List ℕ) (h : Guest) → next ≡ None → StepsWithin start now most stream g (Ok next) more held bytes h
+      → IsWithin start now most stream g more held bytes h
+  went_on next more held bytes h is it = subst (λ (x : Option Reach). StepsWithin start now most stream g (Ok x) more held bytes h) is it
+
+  pub stopped : (next : Option Reach) (progress : Reach) (more : ℕ) (held : Held) (bytes : List ℕ) (h : Guest) → next ≡ Some progress
+      → StepsWithin start now most stream g (Ok next) more held bytes h → Stops start now most stream g progress held bytes h
+  stopped next progress more held bytes h is it = subst (λ (x : Option Reach). StepsWithin start now most stream g (Ok x) more held bytes h) is it
+
+  -- nothing was answered for want of memory
+  pub none_taken : (unsent : List ℕ) → (more : List ℕ) × (unsent ≡ unsent ++ more) × BreaksWithin start now most stream g OutOfMemory more
+  none_taken unsent =
+      ([], sym (append-nil unsent), (record { values = []; rest = stream; parts = refl; last = g; answers = (refl, refl) }, omega arith))
+
+  pub was_taken : (answer : Result Reach ServeFault) (held : Held) (bytes : List ℕ) (h : Guest) → DrainsWithin start now most stream g answer held bytes h
+      → GoesOn start now most stream g answer (bytes_in held) bytes h
+  was_taken (Ok Done) held bytes h it =
+      subst (λ (rest : List ℕ). GoesOn start now most stream g (Ok Done) rest bytes h) (sym (ap bytes_in it.1)) it.2
+  was_taken (Ok Waits) held bytes h it =
+      subst (λ (rest : List ℕ). GoesOn start now most stream g (Ok Waits) rest bytes h) (sym (ap bytes_in it.1)) it.2
+  was_taken (Err fault) held bytes h it = it
+
+-- the piece was added, and nothing was answered yet
+pub first_within : (start : World) (now most : ℕ) (stream : List ℕ) (held : Held) (g : Guest) → held ≡ reading stream → IsWithin start now most stream g most held [] g
+first_within start now most stream held g is =
+    record { so_far = record { values = []; rest = stream; held_is = is; parts = refl; answers = (refl, refl) }; count = omega arith }
+
+-- all that may be answered of a piece was
+pub piece_within : (start : World) (now most limit : ℕ) (answer : Result Reach ServeFault) (before known fed after : Attendance) (l same_l later_l : Listening) (knows : Bool)
+    (piece : List ℕ) (unsent kept out : List ℕ) (talk same later : Talk) (v w : View)
+    → known ≡ record before { asker = introduced start knows before.asker } → fed.asker ≡ known.asker → fed.held ≡ reading (bytes_in known.held ++ piece) → limit ≡ most
+    → kept ≡ unsent → same ≡ talk → same_l ≡ l
+    → ((most : ℕ) (stream first bytes : List ℕ) (g : Guest) → kept ≡ first ++ bytes → IsWithin start now most stream g limit fed.held bytes (guest_of fed same_l same v)
+    → (more : List ℕ) × (out ≡ first ++ more) × DrainsWithin start now most stream g answer after.held more (guest_of after later_l later w))
+    → (more : List ℕ) × (out ≡ unsent ++ more)
+    × GoesOn start now most (bytes_in before.held ++ piece) (guest (party v talk.listens) l talk.told (introduced start knows before.asker)) answer (bytes_in after.held) more
+    (guest_of after later_l later w)
+piece_within start now most limit answer before known fed after l same_l later_l knows piece unsent kept out talk same later v w is_known asker held counts is_kept is_same is_l
+    drains =
+    let g = guest (party v talk.listens) l talk.told (introduced start knows before.asker) in
+    let stream = bytes_in before.held ++ piece in
+    let there : fed.held ≡ reading stream = held ∙ ap (λ (a : Attendance). reading (bytes_in a.held ++ piece)) is_known in
+    let first = first_within start now most stream fed.held g there in
+    let met : introduced start knows before.asker ≡ fed.asker = sym (asker ∙ ap (λ (a : Attendance). a.asker) is_known) in
+    let at_limit = subst (λ (n : ℕ). IsWithin start now most stream g n fed.held [] g) (sym counts) first in
+    let at_l = subst (λ (x : Listening). IsWithin start now most stream g limit fed.held [] (guest (party v talk.listens) x talk.told (introduced start knows before.asker)))
+    (sym is_l) at_limit
+    in
+    let met_there = subst (λ (x : ClientInfo). IsWithin start now most stream g limit fed.held [] (guest (party v talk.listens) same_l talk.told x)) met at_l in
+    let begins = subst (λ (t : Talk). IsWithin start now most stream g limit fed.held [] (guest (party v t.listens) same_l t.told fed.asker)) (sym is_same) met_there in
+    let got = drains most stream unsent [] g (is_kept ∙ sym (append-nil unsent)) begins in
+    (got.0, got.1, was_taken start now most stream g answer after.held got.0 (guest_of after later_l later w) got.2)

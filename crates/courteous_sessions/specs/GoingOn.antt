@@ -1,0 +1,105 @@
+-- How a piece is taken by a call that answers so many values that may store, and no more.
+use Rattle.std.specs.Prelude.{◌≡◌, ◌≤◌, ◌<◌, ◌+◌, ℕ, false, Option, None, Some, List, Result, Ok, Err}
+use Rattle.ballot_law.specs.declared.commands.Command.{Command}
+use Rattle.ballot_law.specs.Limits as limits
+use Rattle.pubsub.specs.Listening.{Listening, is_listening}
+use Rattle.client_commands.specs.Attendants.{TakesCommon}
+use Rattle.client_commands.specs.Courtesies.{ClientInfo, is_stranger}
+use Rattle.client_commands.specs.Lines.{Reads, Answers}
+use Rattle.port_sessions.specs.declared.limit.Reach.{Reach}
+use Rattle.port_sessions.specs.declared.limit.Reach.TheVariants.{Done, Waits}
+use Rattle.port_sessions.specs.Stores.{may_store, one_if}
+use Rattle.resp2.specs.Asked.{IsCommon}
+use Rattle.resp2.specs.declared.framing.fault.FrameFault.{FrameFault}
+use Rattle.resp2.specs.declared.framing.value.Value.{Value}
+use Rattle.resp2.specs.Framing.Frame.{Frame, view, HasLines}
+use Rattle.resp2.specs.Framing.Stream.{Held, reading, bytes_in, held_size}
+use Rattle.sentinel_core.specs.declared.serving.fault.ServeFault.{ServeFault}
+use Rattle.sentinel_core.specs.declared.serving.fault.ServeFault.TheVariants.{Frame as FaultyFrame, Read, Write, Halted as ServeHalted, NoMemory as OutOfMemory}
+use Rattle.sentinel_cell.specs.Histories.{World}
+use Rattle.courteous_sessions.specs.declared.going_on.NextValue.{NextValue}
+use Rattle.courteous_sessions.specs.declared.going_on.NextValue.TheVariants.{Common, Any, PutOff, Short}
+use Rattle.courteous_sessions.specs.Stores.{value_may_store, stores_among, IsStoreNext}
+use Rattle.courteous_sessions.specs.Visits.{Guest, ServesAll, IsAnswered, IsRefused, IsCut}
+use Rattle.courteous_sessions.specs.OnTheWay.{IsOnTheWay}
+
+module _ (start : World) (now : ℕ) (most : ℕ) (stream : List ℕ) (g : Guest) where
+  -- all values of the stream were answered, of which no more may store
+  pub record IsFinished (held bytes : List ℕ) (h : Guest) : Type 0 where
+    pub answered : IsAnswered start now stream g held bytes h
+    pub few : stores_among answered.values ≤ most
+
+  -- values of the stream were answered, so many of which may store, and the next one may too: the bytes from that on are held
+  pub record IsPutOff (held bytes : List ℕ) (h : Guest) : Type 0 where
+    pub values : List Frame
+    pub parts : Reads stream values held
+    pub answers : ServesAll start now g values bytes h
+    pub all : stores_among values ≡ most
+    pub next : IsStoreNext held
+
+  -- a fault came, and no more of the values that were answered may store
+  abbrev pub BreaksWithin : ServeFault → (bytes : List ℕ) → Type 0
+  BreaksWithin (FaultyFrame fault) bytes = (it : IsRefused start now stream fault g bytes) × (stores_among it.values ≤ most)
+  BreaksWithin ServeHalted bytes = (it : IsCut start now stream g bytes) × (stores_among it.values ≤ most)
+  BreaksWithin OutOfMemory bytes = (it : IsCut start now stream g bytes) × (stores_among it.values ≤ most)
+  BreaksWithin Read bytes = ⊥
+  BreaksWithin Write bytes = ⊥
+
+  -- how such a call ends
+  abbrev pub GoesOn : Result Reach ServeFault → (held bytes : List ℕ) → Guest → Type 0
+  GoesOn (Ok Done) held bytes h = IsFinished held bytes h
+  GoesOn (Ok Waits) held bytes h = IsPutOff held bytes h
+  GoesOn (Err fault) held bytes h = BreaksWithin fault bytes
+
+  -- ---- within the call
+
+  -- values were answered, and so many more may be that store
+  pub record IsWithin (more : ℕ) (held : Held) (bytes : List ℕ) (h : Guest) : Type 0 where
+    pub so_far : IsOnTheWay start now stream g held bytes h
+    pub count : stores_among so_far.values + more ≡ most
+
+  -- all values were answered, or the next one is put off
+  abbrev pub Stops : Reach → Held → (bytes : List ℕ) → Guest → Type 0
+  Stops Done held bytes h = (rest : List ℕ) × (held ≡ reading rest) × IsFinished rest bytes h
+  Stops Waits held bytes h = (rest : List ℕ) × (held ≡ reading rest) × IsPutOff rest bytes h
+
+  -- how the answering of the first whole value ends: it was answered, or no more are
+  abbrev pub StepsWithin : Result (Option Reach) ServeFault → (more : ℕ) → Held → (bytes : List ℕ) → Guest → Type 0
+  StepsWithin (Ok None) more held bytes h = IsWithin more held bytes h
+  StepsWithin (Ok (Some progress)) more held bytes h = Stops progress held bytes h
+  StepsWithin (Err fault) more held bytes h = BreaksWithin fault bytes
+
+  -- how the answering of all of them ends
+  abbrev pub DrainsWithin : Result Reach ServeFault → Held → (bytes : List ℕ) → Guest → Type 0
+  DrainsWithin (Ok progress) held bytes h = Stops progress held bytes h
+  DrainsWithin (Err fault) held bytes h = BreaksWithin fault bytes
+
+-- ---- the next value
+
+-- a command that comes nearly always is taken of a connection that listens to nothing, of whose client no password is wanted: `fewer` more may be answered then that store,
+-- and the mark stands after it
+pub record IsCommonAhead (asker : ClientInfo) (l : Listening) (more : ℕ) (before : Held) (command : Command) (fewer : ℕ) (mark after : Held) : Type 0 where
+  pub taken : TakesCommon before after command
+  pub common : IsCommon command
+  pub within : limits.IsWithin command
+  pub known : is_stranger asker ≡ false
+  pub quiet : is_listening l ≡ false
+  pub counts : more ≡ one_if (may_store (Ok command)) + fewer
+  pub marks : mark ≡ after
+  pub smaller : held_size after < held_size before
+
+-- the same of another value
+pub record IsValueAhead (more : ℕ) (before : Held) (value : Value) (fewer : ℕ) (mark after : Held) : Type 0 where
+  pub given : Answers view before (Ok (Some value)) after
+  pub lines : HasLines (view value)
+  pub counts : more ≡ one_if (value_may_store (view value)) + fewer
+  pub marks : mark ≡ after
+  pub smaller : held_size after < held_size before
+
+-- what stands next where `more` values may be answered that store
+abbrev pub TakesAhead : ClientInfo → Listening → (more : ℕ) → Held → Result NextValue FrameFault → (fewer : ℕ) → (mark after : Held) → Type 0
+TakesAhead asker l more before (Ok (Common command)) fewer mark after = IsCommonAhead asker l more before command fewer mark after
+TakesAhead asker l more before (Ok (Any value)) fewer mark after = IsValueAhead more before value fewer mark after
+TakesAhead asker l more before (Ok PutOff) fewer mark after = (more ≡ 0) × (after ≡ before) × IsStoreNext (bytes_in before)
+TakesAhead asker l more before (Ok Short) fewer mark after = Answers {V = Value} view before (Ok None) after
+TakesAhead asker l more before (Err fault) fewer mark after = Answers {V = Value} view before (Err fault) after

@@ -1,0 +1,218 @@
+//! The answering of so many values that may store, and no more.
+
+ghost use Rattle.std.specs.Prelude.{◌≡◌, ◌<◌, ◌+◌, ◌++◌, ℕ, List, None, Ok, OnOk, IfOk, true, false};
+ghost use Rattle.port_sessions.specs.Stores.{may_store, one_if};
+ghost use Rattle.resp2.specs.Framing.Stream.{reading, held_size, bytes_in};
+ghost use Rattle.courteous_sessions.specs.GoingOn.{IsWithin, TakesAhead, StepsWithin, DrainsWithin, GoesOn};
+ghost use Rattle.courteous_sessions.specs.OnTheWay.{IsReady, guest_of};
+ghost use Rattle.courteous_sessions.specs.Visits.{Guest, guest, introduced};
+ghost use Rattle.port_sessions.specs.Talks.{party};
+
+use crate::exchange::Exchange;
+use ballot_law::{Command, NoMemory};
+use port_sessions::{Limit, Reach};
+use resp2::{CommandFault, FrameFault, Value, redis_command_of};
+use sentinel_cell::{Seat, SharedSentinel};
+use sentinel_conf::ConfStore;
+use sentinel_core::ServeFault;
+use std::sync::Wait;
+
+/// What stands next in a connection's stream.
+#[derive(Drop)]
+pub(crate) enum NextValue {
+    /// A command that comes nearly always, which is taken.
+    Common(Command),
+    /// Any whole value, which is taken.
+    Any(Value),
+    /// One that may store and has to wait.
+    PutOff,
+    /// Less than a whole one.
+    Short,
+}
+
+/// A command as it is asked.
+fn asked_by(command: &Command) -> Result<Command, CommandFault>
+    ensures { result ≡ Ok command.now }
+{
+    Ok(*command)
+}
+
+impl Exchange {
+    /// Whether a value that was taken is answered, which asks this; else it is held again, and the call ends.
+    fn allows(&mut self, asked: &Result<Command, CommandFault>, limit: &mut Limit) -> bool
+        ensures yes { result ≡ true → (limit.old.most ≡ one_if (may_store asked.now) + limit.new.most) × (self.new.attendant ≡ self.old.attendant) }
+        ensures mark { result ≡ true → (front : List ℕ) → limit.old.mark ≡ reading (front ++ bytes_in self.old.attendant.held)
+            → limit.new.mark ≡ reading (bytes_in self.old.attendant.held) }
+        ensures no { result ≡ false → (may_store asked.now ≡ true) × (limit.old.most ≡ 0) × (self.new.attendant.held ≡ limit.old.mark) }
+        ensures asker { self.new.attendant.asker ≡ self.old.attendant.asker }
+        ensures session { self.new.session ≡ self.old.session }
+        ensures unsent { self.new.unsent ≡ self.old.unsent }
+        ensures kept { (self.new.knows_masters ≡ self.old.knows_masters) × (self.new.subscriptions ≡ self.old.subscriptions) }
+    {
+        if limit.allows(asked) {
+            limit.follow(self.attendant.held());
+            return true;
+        }
+        self.attendant.go_back(limit.take_mark());
+        false
+    }
+
+    /// Takes the first whole value, unless it has to wait.
+    fn next_within(&mut self, limit: &mut Limit) -> Result<NextValue, FrameFault>
+        requires reads { self.old.attendant.held ≡ reading (bytes_in self.old.attendant.held) }
+        requires mark { limit.old.mark ≡ self.old.attendant.held }
+        ensures ahead { TakesAhead self.old.attendant.asker self.old.subscriptions limit.old.most self.old.attendant.held result limit.new.most limit.new.mark
+            self.new.attendant.held }
+        ensures asker { self.new.attendant.asker ≡ self.old.attendant.asker }
+        ensures session { self.new.session ≡ self.old.session }
+        ensures unsent { self.new.unsent ≡ self.old.unsent }
+        ensures kept { (self.new.knows_masters ≡ self.old.knows_masters) × (self.new.subscriptions ≡ self.old.subscriptions) }
+    {
+        let Some(command) = self.next_common() else {
+            return self.value_ahead(limit);
+        };
+        if self.allows(&asked_by(&command), limit) {
+            return Ok(NextValue::Common(command));
+        }
+        Ok(NextValue::PutOff)
+    }
+
+    /// The same of a value that isn't taken as a common one.
+    fn value_ahead(&mut self, limit: &mut Limit) -> Result<NextValue, FrameFault>
+        requires reads { self.old.attendant.held ≡ reading (bytes_in self.old.attendant.held) }
+        requires mark { limit.old.mark ≡ self.old.attendant.held }
+        ensures ahead { TakesAhead self.old.attendant.asker self.old.subscriptions limit.old.most self.old.attendant.held result limit.new.most limit.new.mark
+            self.new.attendant.held }
+        ensures asker { self.new.attendant.asker ≡ self.old.attendant.asker }
+        ensures session { self.new.session ≡ self.old.session }
+        ensures unsent { self.new.unsent ≡ self.old.unsent }
+        ensures kept { (self.new.knows_masters ≡ self.old.knows_masters) × (self.new.subscriptions ≡ self.old.subscriptions) }
+    {
+        match self.attendant.next() {
+            Ok(Some(value)) => {
+                if self.allows(&redis_command_of(&value), limit) {
+                    Ok(NextValue::Any(value))
+                } else {
+                    Ok(NextValue::PutOff)
+                }
+            }
+            Ok(None) => Ok(NextValue::Short),
+            Err(fault) => Err(fault),
+        }
+    }
+
+    /// Answers the first value that is whole; or else tells why not.
+    fn go_on_next<S: ConfStore, R: Wait>(
+        &mut self,
+        rt: &R,
+        cell: &SharedSentinel<S>,
+        seat: &mut Seat,
+        now: u64,
+        limit: &mut Limit,
+    ) -> Result<Option<Reach>, ServeFault>
+        requires own { seat.old.cell ≡ cell.now.id }
+        requires ready { IsReady self.old.attendant self.old.subscriptions self.old.session }
+        requires mark { limit.old.mark ≡ self.old.attendant.held }
+        ensures own { seat.new.cell ≡ seat.old.cell }
+        ensures ready { OnOk result (IsReady self.new.attendant self.new.subscriptions self.new.session) }
+        ensures knows { self.new.knows_masters ≡ self.old.knows_masters }
+        ensures mark { result ≡ Ok None → limit.new.mark ≡ self.new.attendant.held }
+        ensures smaller { result ≡ Ok None → held_size self.new.attendant.held < held_size self.old.attendant.held }
+        ensures answered { (most : ℕ) (stream before bytes : List ℕ) (g : Guest) → self.old.unsent.items ≡ before ++ bytes
+            → IsWithin cell.now.start now most stream g limit.old.most self.old.attendant.held bytes
+            (guest_of self.old.attendant self.old.subscriptions self.old.session seat.old.view) → (more : List ℕ) × (self.new.unsent.items ≡ before ++ more)
+            × StepsWithin cell.now.start now most stream g result limit.new.most self.new.attendant.held more
+            (guest_of self.new.attendant self.new.subscriptions self.new.session seat.new.view) }
+    {
+        match self.next_within(limit) {
+            Ok(NextValue::Common(command)) => match self.tell_common(rt, cell, seat, now, command) {
+                Ok(()) => Ok(None),
+                Err(fault) => Err(fault),
+            },
+            Ok(NextValue::Any(value)) => match self.tell_value(rt, cell, seat, now, &value) {
+                Ok(()) => Ok(None),
+                Err(fault) => Err(fault),
+            },
+            Ok(NextValue::PutOff) => Ok(Some(Reach::Waits)),
+            Ok(NextValue::Short) => Ok(Some(Reach::Done)),
+            Err(fault) => Err(self.refuse(fault)),
+        }
+    }
+
+    /// Answers each value that is whole, but the first one that has to wait and those after it.
+    fn go_on_whole<S: ConfStore, R: Wait>(
+        &mut self,
+        rt: &R,
+        cell: &SharedSentinel<S>,
+        seat: &mut Seat,
+        now: u64,
+        limit: &mut Limit,
+    ) -> Result<Reach, ServeFault>
+        requires own { seat.old.cell ≡ cell.now.id }
+        requires ready { IsReady self.old.attendant self.old.subscriptions self.old.session }
+        requires mark { limit.old.mark ≡ self.old.attendant.held }
+        ensures own { seat.new.cell ≡ seat.old.cell }
+        ensures ready { OnOk result (IsReady self.new.attendant self.new.subscriptions self.new.session) }
+        ensures knows { self.new.knows_masters ≡ self.old.knows_masters }
+        ensures answered { (most : ℕ) (stream before bytes : List ℕ) (g : Guest) → self.old.unsent.items ≡ before ++ bytes
+            → IsWithin cell.now.start now most stream g limit.old.most self.old.attendant.held bytes
+            (guest_of self.old.attendant self.old.subscriptions self.old.session seat.old.view) → (more : List ℕ) × (self.new.unsent.items ≡ before ++ more)
+            × DrainsWithin cell.now.start now most stream g result self.new.attendant.held more
+            (guest_of self.new.attendant self.new.subscriptions self.new.session seat.new.view) }
+    {
+        loop {
+            match self.go_on_next(rt, cell, seat, now, limit) {
+                Ok(None) => self.answered = self.answered.saturating_add(1),
+                Ok(Some(progress)) => return Ok(progress),
+                Err(fault) => return Err(fault),
+            }
+        }
+    }
+
+    /// Adds the next piece to what is held, and gives a limit of so many values that may store, which stands where the
+    /// first one of all these begins.
+    fn feed_within(&mut self, piece: &[u8], most: u64) -> Result<Limit, NoMemory>
+        requires reads { self.old.attendant.held ≡ reading (bytes_in self.old.attendant.held) }
+        ensures fed { OnOk result (self.new.attendant.held ≡ reading (bytes_in self.old.attendant.held ++ piece.now)) }
+        ensures limit { IfOk result (λ limit. (limit.mark ≡ self.new.attendant.held) × (limit.most ≡ most)) }
+        ensures asker { self.new.attendant.asker ≡ self.old.attendant.asker }
+        ensures session { self.new.session ≡ self.old.session }
+        ensures unsent { self.new.unsent ≡ self.old.unsent }
+        ensures kept { (self.new.knows_masters ≡ self.old.knows_masters) × (self.new.subscriptions ≡ self.old.subscriptions) }
+    {
+        if self.attendant.feed(piece).is_err() {
+            return Err(NoMemory);
+        }
+        Limit::new(self.alloc, self.attendant.held(), most)
+    }
+
+    /// Takes the next piece, and answers the values that are whole with it, of which so many may store.
+    pub(crate) fn take_some<S: ConfStore, R: Wait>(
+        &mut self,
+        rt: &R,
+        cell: &SharedSentinel<S>,
+        seat: &mut Seat,
+        now: u64,
+        piece: &[u8],
+        most: u64,
+    ) -> Result<Reach, ServeFault>
+        requires own { seat.old.cell ≡ cell.now.id }
+        requires ready { IsReady self.old.attendant self.old.subscriptions self.old.session }
+        ensures own { seat.new.cell ≡ seat.old.cell }
+        ensures ready { OnOk result (IsReady self.new.attendant self.new.subscriptions self.new.session) }
+        ensures knows { OnOk result (self.new.knows_masters ≡ true) }
+        ensures received { (more : List ℕ) × (self.new.unsent.items ≡ self.old.unsent.items ++ more)
+            × GoesOn cell.now.start now most (bytes_in self.old.attendant.held ++ piece.now)
+            (guest (party seat.old.view self.old.session.listens) self.old.subscriptions self.old.session.told
+            (introduced cell.now.start self.old.knows_masters self.old.attendant.asker)) result (bytes_in self.new.attendant.held) more
+            (guest_of self.new.attendant self.new.subscriptions self.new.session seat.new.view) }
+    {
+        if self.learn_masters(cell).is_err() {
+            return Err(ServeFault::NoMemory);
+        }
+        let Ok(mut limit) = self.feed_within(piece, most) else {
+            return Err(ServeFault::NoMemory);
+        };
+        self.go_on_whole(rt, cell, seat, now, &mut limit)
+    }
+}
