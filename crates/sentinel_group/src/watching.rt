@@ -289,7 +289,8 @@ where
     if let Err(status) = ready.open(rt, noting) {
         return Err(Unwatched::Refused(status));
     }
-    let ended = watch.run(noting);
+    let (left, ended) = watch.run(noting);
+    drop(left);
     ready.close(rt);
     match ended {
         Ok(()) => Ok(()),

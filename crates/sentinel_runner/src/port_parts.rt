@@ -1,6 +1,6 @@
 //! What each thread of a port serves, and how these threads run.
 
-ghost use Rattle.std.specs.Prelude.{◌≡◌, IfOk, length};
+ghost use Rattle.std.specs.Prelude.{◌≡◌, None, IfOk, length};
 
 use crate::group_fault::GroupFault;
 use crate::opened::fault_of;
@@ -123,6 +123,14 @@ where
 pub(crate) fn end_for_want(state: &RunState, ending: &AtomicU64) {
     state.note(RunFault::LackedThread);
     ending.store(1, Ordering::SeqCst);
+}
+
+/// Ends them so, and nothing is left of their Sentinel.
+pub(crate) fn none_for_want<T>(state: &RunState, ending: &AtomicU64) -> Option<T>
+    ensures { result ≡ None }
+{
+    end_for_want(state, ending);
+    None
 }
 
 /// Notes why a port serves no more: want of memory, or the system.

@@ -9,7 +9,9 @@ ghost use Rattle.sentinel_runner.specs.declared.group_fault.GroupFault.TheVarian
 
 use crate::group_fault::GroupFault;
 use crate::opened::{Opened, PORT_THREADS_MAX};
-use crate::port_parts::{Back, PortPart, ServesPort, end_for_want, end_of, parts_of, serve_parts};
+use crate::port_parts::{
+    Back, PortPart, ServesPort, end_for_want, end_of, none_for_want, parts_of, serve_parts,
+};
 use crate::restarts::{LifeEnds, Restart, Restarts, Resting};
 use crate::shared::Shared;
 use channel_transport::{Delivery, Links, run_link, run_timer};
@@ -186,12 +188,13 @@ impl<S: ConfStore + Drop> Started<S> {
     }
 }
 
-/// The seats that threads handed back, and the end of their Sentinel's channel, where all have come.
-fn come_back<J: Which, R: Wait>(
+/// The seats that threads handed back, and the end of their Sentinel's channel, where it came. None without memory for
+/// them.
+pub(crate) fn come_back<J: Which, R: Wait>(
     rt: &R,
     alloc: Global,
     back: &Receiver<Back<J>>,
-) -> Option<(Vec<ThreadSeat<J>>, Receiver<Delivery>)> {
+) -> Option<(Vec<ThreadSeat<J>>, Option<Receiver<Delivery>>)> {
     let mut seats = Vec::new(alloc);
     let mut end = None;
     for _ in 0..SEATS_MAX {
@@ -204,7 +207,7 @@ fn come_back<J: Which, R: Wait>(
             Err(_) => break,
         }
     }
-    Some((seats, end?))
+    Some((seats, end))
 }
 
 /// Ends a Sentinel whose threads have ended: what is left of it, where they handed all back.
@@ -215,6 +218,7 @@ fn close<J: Which, S: ConfStore + Drop, R: Wait>(
     back: &Receiver<Back<J>>,
 ) -> Option<Left<S>> {
     let (seats, deliveries) = come_back(rt, alloc, back)?;
+    let deliveries = deliveries?;
     let Keeper { sentinel, store } = member.close(seats)?;
     drop(sentinel);
     Some(Left { store, deliveries })
@@ -272,12 +276,6 @@ where
     };
     run_threads(rt, state, links, &member, parts, stop);
     close(rt, alloc, member, &back)
-}
-
-/// Nothing is left of a Sentinel whose threads can't be made.
-fn none_for_want<S>(state: &RunState, stop: &AtomicU64) -> Option<Left<S>> {
-    end_for_want(state, stop);
-    None
 }
 
 /// What the thread of the ticks has, and where it hands its seat back.

@@ -1,11 +1,12 @@
 //! One Sentinel of its own, which watches Redis servers and speaks to the other Sentinels over TCP.
 
-ghost use Rattle.std.specs.Prelude.{◌≡◌, ◌≢◌, ◌<◌, ◌≤◌, ◌+◌, ◌-◌, ◌^◌, ℕ, IfErr, IfOk, IfSome, Ok, OnOk, length};
+ghost use Rattle.std.specs.Prelude.{◌≡◌, ◌≢◌, ◌<◌, ◌≤◌, ◌+◌, ◌-◌, ◌^◌, ℕ, IfErr, IfOk, IfSome, IsSome, IsTrue, Ok, OnOk, length};
 ghost use Rattle.ballot_law.specs.declared.messages.Message.{Message};
 ghost use Rattle.ballot_law.specs.declared.messages.Note.{Note};
 ghost use Rattle.sentinel_conf.specs.Reading.{conf_of_bytes};
 ghost use Rattle.sentinel_conf.specs.Rewritten.{rewritten};
 ghost use Rattle.sentinel_runner.specs.Opening.{IsOpenedAnew};
+ghost use Rattle.sentinel_runtime.specs.Running.{IsLeftByTurns};
 ghost use Rattle.sentinel_runtime.specs.Saying.{IsNoted, IsReleased};
 ghost use Rattle.sentinel_runner.specs.declared.group_fault.GroupFault.TheVariants.{NotOneRoster};
 ghost use Rattle.sentinel_runner.specs.declared.opened.TheConstants.{PORT_THREADS_MAX};
@@ -15,10 +16,16 @@ use crate::group::outcome;
 use crate::group_fault::GroupFault;
 use crate::loaded_conf::LoadedConf;
 use crate::opened::{Opened, OpenedWith, PortSettings, fault_of};
-use crate::port_parts::{PortPart, ServesPort, end_for_want, note_lost, parts_of, serve_parts};
+use crate::port_parts::{
+    Back, PortPart, ServesPort, end_for_want, end_of, none_for_want, note_lost, parts_of,
+    serve_parts,
+};
+use crate::started::come_back;
 use client_port::{Admission, Port, PortAddress, PortRoom, ReadsTimes, Sockets, seats_beside};
+use crossbeam_channel::{Receiver, Sender, unbounded};
 use links::connection_count;
 use log::{Log, info, warn};
+use sentinel_cell::Keeper;
 use sentinel_conf::{Conf, ConfStore, ConfText, rewrite_into};
 use sentinel_runtime::{GroupClock, RunState, RunningSentinel, ThreadSeat, Which};
 use std::alloc::{AllocError, Global};
@@ -253,42 +260,61 @@ impl<S: ConfStore + Drop> Watch<S> {
         })
     }
 
-    /// Runs its threads until the Sentinel is halted; this thread has the connections. The store is gone then.
+    /// Runs its threads until the Sentinel is halted; this thread has the connections. Then they have ended, and the
+    /// Sentinel is here with its store, as the history of its turns leaves them; where a thread couldn't hand its seat
+    /// back, both are gone.
     ///
     /// `Halted` where the store refused a text, whichever thread met that; `PortRefused` where the system doesn't tell
     /// of the connections, and `NoMemory` where a thread or its room couldn't be made: `NotOneRoster` never comes.
     pub fn run<R: Threads + Wait + Net + Clock + ReadsTimes + Log + Sync>(
         self,
         rt: &R,
-    ) -> Result<(), GroupFault>
+    ) -> (Option<Keeper<S>>, Result<(), GroupFault>)
     where
         S: Send,
-        ensures roster { IfErr result (λ fault. fault ≢ NotOneRoster) }
+        ensures left { IfSome result.0 (IsLeftByTurns S.held S.failure_count self.watching.opened.cell.start) }
+        ensures ok { OnOk result.1 (IsSome result.0) }
+        ensures roster { IfErr result.1 (λ fault. fault ≢ NotOneRoster) }
     {
         let Watch {
             watching,
             wires,
             state,
         } = self;
-        run_named::<Brand, S, R, R>(rt, rt, &state, watching, wires);
-        outcome(&state.run)
+        let left = run_named::<Brand, S, R, R>(rt, rt, &state, watching, wires);
+        let ended = ended(&state.run, left.is_some());
+        (left, ended)
     }
 }
 
-/// Runs the threads of a Sentinel that has a name for proofs; this one has the connections, since a thread that is
-/// started gets no handle for sockets.
+/// How a Sentinel ended that is here again or isn't: without a fault it is.
+fn ended(state: &RunState, is_here: bool) -> Result<(), GroupFault>
+    ensures ok { OnOk result (IsTrue is_here) }
+    ensures roster { IfErr result (λ fault. fault ≢ NotOneRoster) }
+{
+    outcome(state)?;
+    if is_here {
+        return Ok(());
+    }
+    Err(GroupFault::NoMemory)
+}
+
+/// Runs the threads of a Sentinel that has a name for proofs, until all have ended; this one has the connections, since a
+/// thread that is started gets no handle for sockets. What is left of it then; none where a thread or its room couldn't
+/// be made.
 fn run_named<J: Which + Send + Sync, S: ConfStore + Drop + Send, R, N: Net>(
     rt: &R,
     net: &N,
     state: &WatchState,
     watching: Watching<S>,
     wires: PlannedConnections,
-)
+) -> Option<Keeper<S>>
 where
     R: Threads + Wait + Clock + ReadsTimes + Log + Sync,
     requires named { watching.opened.cell.id ≡ J.cell }
     requires says { (message : Message) → IsReleased watching.opened.cell.start message → ∥ J.said message ∥₁ }
     requires notes { (note : Note) (number : ℕ) → IsNoted watching.opened.cell.start note number → ∥ J.noted note number ∥₁ }
+    ensures { IfSome result (IsLeftByTurns S.held S.failure_count watching.opened.cell.start) }
 {
     let Watching { opened, alloc } = watching;
     let Opened {
@@ -303,46 +329,51 @@ where
     } = opened;
     let made = RunningSentinel::<J, S>::with_seat(alloc, cell, seat, place, number, port_threads);
     let Ok((member, seat)) = made else {
-        return end_for_want(&state.run, &state.ending);
+        return none_for_want(&state.run, &state.ending);
     };
     let (wires, far) = match wires.named::<J>() {
         Ok(both) => both,
-        Err(error) => return note_lost(&state.run, &error),
+        Err(error) => {
+            note_lost(&state.run, &error);
+            return None;
+        }
     };
     far.guard(&member);
-    let Ok(seated) = Seated::of(alloc, &member, seat, port, others) else {
-        return end_for_want(&state.run, &state.ending);
-    };
-    let Seated {
-        ticks,
-        first,
-        others,
-    } = seated;
-    let parts = WatchParts {
-        ticks: TickPart {
-            far,
-            seat: ticks,
-            alloc,
-        },
-        first,
-        others,
+    let Ok((parts, back)) = seated(alloc, &member, seat, far, (port, others)) else {
+        return none_for_want(&state.run, &state.ending);
     };
     let mut wires = NetWires { wires, net };
     run_parts(rt, state, &member, parts, &mut wires);
+    left_of(rt, alloc, member, &back)
 }
 
-/// What the thread of a Sentinel's ticks has: its end of the connections, and its seat.
+/// What is left of a Sentinel whose threads have ended, where all of them handed their seats back.
+fn left_of<J: Which, S: ConfStore + Drop, R: Wait>(
+    rt: &R,
+    alloc: Global,
+    member: RunningSentinel<J, S>,
+    back: &Receiver<Back<J>>,
+) -> Option<Keeper<S>>
+    ensures { IfSome result (IsLeftByTurns S.held S.failure_count member.cell.start) }
+{
+    let (seats, _) = come_back(rt, alloc, back)?;
+    member.close(seats)
+}
+
+/// What the thread of a Sentinel's ticks has: its end of the connections, its seat, and where it hands that back.
 #[derive(Drop)]
 struct TickPart<J: Which> {
     far: SentinelEnd<J>,
     seat: ThreadSeat<J>,
+    back: Sender<Back<J>>,
     alloc: Global,
 }
 
 /// What the thread of the ticks of such a Sentinel does. By this trait `run_parts` knows of it no more than that it may
 /// be sent.
 trait Ticks<M> {
-    /// Ticks, and hears what the connections hear, until the threads end or the Sentinel is halted.
+    /// Ticks, and hears what the connections hear, until the threads end or the Sentinel is halted. Then the seat goes
+    /// back.
     fn tick<R: Wait + Clock + Log>(self, rt: &R, state: &WatchState, member: &M);
 }
 
@@ -356,47 +387,51 @@ impl<J: Which, S: ConfStore> Ticks<RunningSentinel<J, S>> for TickPart<J> {
         let TickPart {
             far,
             mut seat,
+            back,
             alloc,
         } = self;
         let mut rounds = TickLoop::new(alloc, member, far, state.run.clock.now(rt));
         rounds.run(rt, state, member, &mut seat);
         state.ending.store(1, Ordering::SeqCst);
+        drop(back.send(rt, Back::Seat(seat)));
     }
 }
 
-/// The seats of a Sentinel's threads, those of the port with what they serve.
-#[derive(Drop)]
-struct Seated<J: Which> {
-    ticks: ThreadSeat<J>,
-    first: PortPart<J>,
-    others: Vec<PortPart<J>>,
-}
-
-impl<J: Which> Seated<J> {
-    /// Cuts the seat of the Sentinel into one for each thread.
-    fn of<S: ConfStore>(
-        alloc: Global,
-        member: &RunningSentinel<J, S>,
-        seat: ThreadSeat<J>,
-        port: Port,
-        ports: Vec<Port>,
-    ) -> Result<Seated<J>, AllocError>
-        requires { seat.seat.view.share ≡ length ports.items + 1 + BESIDE }
-    {
-        let mut seats = member.seats(alloc, seat)?;
-        let (Some(ticks), Some(seat)) = (seats.pop(), seats.pop()) else {
-            unreachable!()
-        };
-        Ok(Seated {
-            ticks,
-            first: PortPart {
-                port,
-                seat,
-                back: None,
-            },
-            others: parts_of(alloc, ports, seats, &None)?,
-        })
-    }
+/// Cuts the seat of the Sentinel into one for each thread, with what it does, and the end at which the threads hand the
+/// seats back.
+fn seated<J: Which, S: ConfStore>(
+    alloc: Global,
+    member: &RunningSentinel<J, S>,
+    seat: ThreadSeat<J>,
+    far: SentinelEnd<J>,
+    ports: (Port, Vec<Port>),
+) -> Result<(WatchParts<TickPart<J>, PortPart<J>>, Receiver<Back<J>>), AllocError>
+    requires { seat.seat.view.share ≡ length ports.1.items + 1 + BESIDE }
+{
+    let (port, ports) = ports;
+    let (back, backs) = unbounded(alloc)?;
+    let mut seats = member.seats(alloc, seat)?;
+    let (Some(ticks), Some(seat)) = (seats.pop(), seats.pop()) else {
+        unreachable!()
+    };
+    let ticks = TickPart {
+        far,
+        seat: ticks,
+        back: back.clone()?,
+        alloc,
+    };
+    let back = Some(back);
+    let first = PortPart {
+        port,
+        seat,
+        back: end_of(&back)?,
+    };
+    let parts = WatchParts {
+        ticks,
+        first,
+        others: parts_of(alloc, ports, seats, &back)?,
+    };
+    Ok((parts, backs))
 }
 
 /// What each thread of a Sentinel has beside that of its connections.
