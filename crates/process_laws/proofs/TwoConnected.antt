@@ -580,10 +580,10 @@ may_all = (
         (
           inl (inl tt),
           (
-            inr (inr (1, first_heard)),
+            inr ∣ inr (1, first_heard) ∣₁,
             (
               inl (inl tt),
-              (inl (inl tt), (inl (inl tt), (inl (inl tt), (inr (inr (1, next_heard)), (inl (inl tt), tt))))),
+              (inl (inl tt), (inl (inl tt), (inl (inl tt), (inr ∣ inr (1, next_heard) ∣₁, (inl (inl tt), tt))))),
             ),
           ),
         ),

@@ -195,11 +195,11 @@ pub record IsHeardFrom (roster : Roster) (before : List Action) (i k : ℕ) (eve
   pub start : World
   pub carried : IsCarried roster before i (id_of roster k) start asked came
 
--- What the Sentinel with this plan may take after these actions: what no other Sentinel brings, that of which it takes no notice, a hello that a Sentinel published before,
--- or what came over a connection
+-- What the Sentinel with this plan may take after these actions: what no other Sentinel brings, and that of which it takes no notice, from whomever it came; or a hello that a
+-- Sentinel published before, or what came over a connection, whichever that was
 abbrev pub MayTake : Roster → Plan → (stores : ℕ) → (before : List Action) → (i : ℕ) → Event → Type 0
 MayTake roster plan stores before i event =
-    (IsFree event ⊎ (is_noticed plan event ≡ false)) ⊎ (IsPublished stores (all_sent before) event ⊎ ((k : ℕ) × IsHeardFrom roster before i k event))
+    (IsFree event ⊎ (is_noticed plan event ≡ false)) ⊎ ∥ IsPublished stores (all_sent before) event ⊎ ((k : ℕ) × IsHeardFrom roster before i k event) ∥₁
 
 -- ---- the processes of a group
 
@@ -219,7 +219,7 @@ ConnectedProcessesAreSafe =
     HasDistinctIds roster →
     IsStart roster start →
     AreConnected roster start lives order →
-    AreActions roster (length start.stores) (at_first start) [] order
+    ∥ AreActions roster (length start.stores) (at_first start) [] order ∥₁
     × HasOneLeader (all_elected (at_first start) order)
     × HasOneAddress (all_said roster (at_first start) order)
     × ((before later : List Action) → order ≡ before ++ later
