@@ -41,7 +41,7 @@ use Rattle.process_laws.proofs.HeardAnswers.{answers_are_heard}
 use Rattle.process_laws.proofs.Openings.{IsLinked, links_deliver}
 use Rattle.process_laws.proofs.OwnActions.{own_actions_are_actions}
 use Rattle.process_laws.proofs.Safety.{after_both, processes_are_safe}
-use Rattle.process_laws.proofs.SharedConnections.{AreDeliveredSo}
+use Rattle.process_laws.proofs.SharedConnections.{AreDeliveredSo, IsKeptSo, heard_kept}
 use Rattle.process_laws.proofs.Words.{RowIsOne}
 
 -- ---- what each process did by itself
@@ -121,22 +121,22 @@ module _ (before : List Action) (start : World) (i : ℕ) (plan : Plan) (stores 
       (subst (λ (e : Entry). Contains (sent_by (Took start.plan.place e (SentinelAt i) a.left)) message) (sym entry_is) sent))
 
   heard_so : (v : View) (words : List LinkWord) (events : List Event) (event : Event) → AllByRecursion IsAskableWord words
-      → AllByRecursion (IsAboutOne start.plan) words → AreDeliveredSo (Asked before start i) start (SentinelAt i) v words events → Contains events event
+      → AllByRecursion (IsAboutOne start.plan) words → AreDeliveredSo (Asked before start i) IsKeptSo start (SentinelAt i) v words events → Contains events event
       → IsHeard plan stores (all_sent before) i event
   heard_so v words [] event askable one d there = let low = there.1 in absurd (omega (arith, low))
   heard_so v [] (e ∷ events) event askable one d there = absurd d
   heard_so v (AsksRow name ∷ words) (e ∷ events) event askable one d there = heard_so v words (e ∷ events) event askable.1 one.1 d there
   heard_so v (Says question ∷ words) (e ∷ events) event askable one d there =
       ⊎_elim
-      (λ (is : e ≡ event). subst (IsHeard plan stores (all_sent before) i) is (one_heard v d.0 question e askable.0 one.0 d.1 d.2))
-      (λ (later : Contains events event). heard_so d.0 words events event askable.1 one.1 d.3 later)
+      (λ (is : e ≡ event). subst (IsHeard plan stores (all_sent before) i) is (one_heard v d.2 d.0 e d.1.0 (d.1.2 start.plan one.0) d.3 d.4))
+      (λ (later : Contains events event). heard_so d.2 words events event askable.1 one.1 d.5 later)
       (by_index e event events there.0 there.1 there.2)
 
 -- a row is answered by one value
 rows_are_one : (words : List LinkWord) → AllByRecursion (RowIsOne IsAnsweredRow) words
 rows_are_one [] = tt
 rows_are_one (Says body ∷ words) = (tt, rows_are_one words)
-rows_are_one (AsksRow name ∷ words) = (λ bytes answered. answered name refl, rows_are_one words)
+rows_are_one (AsksRow name ∷ words) = (λ g bytes answered. answered name refl, rows_are_one words)
 
 module _ (roster : Roster) (plan : Plan) (stores : ℕ) (before : List Action) (i k : ℕ) (event : Event) (h : IsHeardFrom roster before i k event) where
   abbrev c : IsCarried roster before i (id_of roster k) h.start h.asked h.came
@@ -190,7 +190,7 @@ module _ (roster : Roster) (plan : Plan) (stores : ℕ) (before : List Action) (
       ⊎_elim
       (λ (none : heard_there ≡ []). let low = (subst (λ (l : List Event). Contains l event) none among).1 in absurd (omega (arith, low)))
       (λ goes. heard_so before h.start i plan stores c.g.party.view c.words heard_there event c.askable c.alone (goes.2 (ap SentinelAt (met ids goes.0 goes.1))) among)
-      (links_deliver (Asked before h.start i) IsAnsweredRow h.start (SentinelAt i) (SentinelAt k) c.g c.login (id_of roster k) c.words heard_there linked)
+      (links_deliver (Asked before h.start i) IsAnsweredRow IsKeptSo (λ g question bytes askable answered. heard_kept g.asker.current question askable) h.start (SentinelAt i) (SentinelAt k) c.g c.login (id_of roster k) c.words heard_there linked)
 
 -- what may be taken is heard as the laws of processes ask it
 taken_is_heard : (roster : Roster) (plan : Plan) (stores : ℕ) (before : List Action) (i : ℕ) (event : Event) → HasDistinctIds roster

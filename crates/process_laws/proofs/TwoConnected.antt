@@ -1,5 +1,5 @@
 -- What two connected processes do is computed, and meets what the law of connected processes asks.
-use Rattle.std.proofs.Common.{◌≡◌, ◌≢◌, ℕ, zero, suc, ◌<◌, ◌≤◌, Bool, true, false, cond, ne_eqb, Option, Some, None, Result, Ok, Err, List, [], ◌∷◌, ◌++◌, append_assoc, refl, sym, ap, subst, ◌∙◌, inl, inr, arith, lit<, lit≤, le_refl}
+use Rattle.std.proofs.Common.{◌≡◌, ◌≢◌, ℕ, zero, suc, ◌<◌, ◌≤◌, Bool, true, false, cond, ne_eqb, Option, Some, None, Result, Ok, List, [], ◌∷◌, ◌++◌, append_assoc, refl, sym, ap, subst, ◌∙◌, inl, inr, arith, lit<, lit≤, le_refl}
 use lib.Utf8.{encode}
 use mathlib.Core.List.{append-nil}
 use Rattle.std.specs.Prelude.{⊤, take}
@@ -57,9 +57,8 @@ use Rattle.sentinel_rules.specs.Ticks.{hands_over}
 use Rattle.sentinel_rules.specs.Worked.{local, ask_at}
 use Rattle.process_laws.specs.Actions.{Action, Opened, Took, Told, IsOpened, actions_after, all_elected, at_first}
 use Rattle.process_laws.specs.Connections.{IsAlone}
-use Rattle.process_laws.specs.Connected.{history_of, AreLives, actions_of, MayTake, LinkWord, Says, IsAnsweredRow, HasAnswered, IsToldBy, IsCarried, IsHeardFrom, AreConnected, bytes_of}
+use Rattle.process_laws.specs.Connected.{history_of, AreLives, actions_of, MayTake, LinkWord, Says, ServedOn, IsAnsweredRow, HasAnswered, IsToldBy, IsCarried, IsHeardFrom, AreConnected, bytes_of}
 use Rattle.process_laws.specs.OwnActions.{own_of}
-use Rattle.process_laws.specs.SharedConnections.{IsNear, ServedBeside}
 use Rattle.process_laws.specs.TwoConnected.{order, life_of, ConnectedProcessesHappen}
 use Rattle.process_laws.specs.TwoProcesses.{roster, begin, first_file, entry_of, sends}
 use Rattle.process_laws.proofs.Differing.{same_differs}
@@ -164,13 +163,6 @@ view_of front =
 
 abbrev guest_at : List Entry → Guest
 guest_at front = guest (party (view_of front) None) unsubscribed [] client
-
-near : (g : Guest) (value : Frame) → g.asker.current ≡ None → IsNear g value
-near g value none = ap (λ (c : Option ℕ). heard_as c (command_of value)) none ∙ as_it_is (command_of value)
-  where
-    as_it_is : (read : Result Command CommandFault) → heard_as None read ≡ read
-    as_it_is (Ok command) = ap Ok (hears_all command)
-    as_it_is (Err why) = refl
 
 -- no entry has another number than 0
 given_all : (front : List Entry) → AllByRecursion (λ (e : Entry). e.number ≡ 0) front → (n : ℕ) → 1 ≤ n → calls_by n front ≡ []
@@ -314,12 +306,12 @@ tells_next =
     (turn 710 command two_seen voted_then (spelling next_answer) legal (refl, (refl, (refl, tt))) refl refl refl (sym (append-nil (spelling next_answer))), refl)
 
 abbrev Served : (front : List Entry) → (values : List Frame) → (bytes : List ℕ) → (last : List Entry) → Type 0
-Served front values bytes last = ServedBeside other_world (guest_at front) values bytes (guest_at last)
+Served front values bytes last = ServedOn other_world (guest_at front) values bytes (guest_at last)
 
 abbrev serves_id : (values : List Frame) (rest : List ℕ) (last : List Entry) → Served one_seen values rest last
     → Served [] (id_value ∷ values) (spelling (id_frame id) ++ rest) last
 serves_id values rest last served =
-    (605, guest_at [], guest_at one_seen, spelling (id_frame id), rest, refl, nothing_between (guest_at []), near (guest_at []) id_value refl, tells_id, served)
+    (605, guest_at [], guest_at one_seen, spelling (id_frame id), rest, refl, nothing_between (guest_at []), tells_id, served)
 
 abbrev serves_first : (values : List Frame) (rest : List ℕ) (last : List Entry) → Served two_seen values rest last
     → Served one_seen (first_question ∷ values) (spelling first_answer ++ rest) last
@@ -331,7 +323,6 @@ serves_first values rest last served = (
   rest,
   refl,
   nothing_between (guest_at one_seen),
-  near (guest_at one_seen) first_question refl,
   tells_first,
   served,
 )
@@ -345,7 +336,6 @@ serves_next = (
   [],
   refl,
   nothing_between (guest_at two_seen),
-  near (guest_at two_seen) next_question refl,
   tells_next,
   (refl, refl),
 )
@@ -356,13 +346,13 @@ counted : Frame → ℕ
 counted (items fs) = count fs
 counted f = 0
 
-no_row_id : (bytes : List ℕ) → IsAnsweredRow id_value bytes
+no_row_id : (g : Guest) (bytes : List ℕ) → IsAnsweredRow g id_value bytes
 unfolding counted
-no_row_id bytes name e = let same : 2 ≡ 3 = ap counted e in absurd (omega (arith, same))
+no_row_id g bytes name e = let same : 2 ≡ 3 = ap counted e in absurd (omega (arith, same))
 
-no_row : (epoch : ℕ) (candidate : Option RunId) (bytes : List ℕ) → IsAnsweredRow (ask_frame (local 6379) epoch candidate) bytes
+no_row : (epoch : ℕ) (candidate : Option RunId) (g : Guest) (bytes : List ℕ) → IsAnsweredRow g (ask_frame (local 6379) epoch candidate) bytes
 unfolding counted
-no_row epoch candidate bytes name e = let same : 6 ≡ 3 = ap counted e in absurd (omega (arith, same))
+no_row epoch candidate g bytes name e = let same : 6 ≡ 3 = ap counted e in absurd (omega (arith, same))
 
 -- ---- what the link heard
 
@@ -431,10 +421,10 @@ first_carried =
       served = serves_id (first_question ∷ []) (spelling first_answer ++ []) two_seen (serves_first [] [] two_seen (refl, refl));
       turns = (
         inr (let has : Has first_before one_seen = record { earlier = []; entry = named_then; left = Old; front_is = refl; took = (2, lit< tt, refl); ids = (tt, tt) } in has),
-        no_row_id (spelling (id_frame id)),
+        no_row_id (guest_at []) (spelling (id_frame id)),
         (
           inr (let has : Has first_before two_seen = record { earlier = one_seen; entry = answered_then; left = Old; front_is = refl; took = (4, lit< tt, refl); ids = (tt, tt) } in has),
-          no_row 0 None (spelling first_answer),
+          no_row 0 None (guest_at one_seen) (spelling first_answer),
           tt,
         ),
       );
@@ -496,13 +486,13 @@ next_carried =
           (serves_first (next_question ∷ []) (spelling next_answer ++ []) all_seen serves_next);
       turns = (
         inr (let has : Has next_before one_seen = record { earlier = []; entry = named_then; left = Old; front_is = refl; took = (2, lit< tt, refl); ids = (tt, tt) } in has),
-        no_row_id (spelling (id_frame id)),
+        no_row_id (guest_at []) (spelling (id_frame id)),
         (
           inr (let has : Has next_before two_seen = record { earlier = one_seen; entry = answered_then; left = Old; front_is = refl; took = (4, lit< tt, refl); ids = (tt, tt) } in has),
-          no_row 0 None (spelling first_answer),
+          no_row 0 None (guest_at one_seen) (spelling first_answer),
           (
             inr (let has : Has next_before all_seen = record { earlier = two_seen; entry = voted_then; left = Old; front_is = refl; took = (9, lit< tt, refl); ids = (voted, tt) } in has),
-            no_row 1 (Some (id_of roster 0)) (spelling next_answer),
+            no_row 1 (Some (id_of roster 0)) (guest_at two_seen) (spelling next_answer),
             tt,
           ),
         ),

@@ -15,7 +15,7 @@ use Rattle.ballot_law.specs.Names.{IsName}
 use Rattle.ballot_law.specs.Rosters.{Roster, size, id_of, HasDistinctIds}
 use Rattle.ballot_law.specs.Worlds.{World as Group, IsFree}
 use Rattle.client_commands.specs.Courtesies.{is_stranger}
-use Rattle.courteous_sessions.specs.Visits.{Guest}
+use Rattle.courteous_sessions.specs.Visits.{Guest, Tells as TellsClient}
 use Rattle.links.specs.declared.sessions.questions.Question.{Question}
 use Rattle.links.specs.declared.sessions.questions.Question.TheVariants.{Order}
 use Rattle.links.specs.declared.speaking.Login.{Login}
@@ -37,7 +37,7 @@ use Rattle.process_laws.specs.Differing.{DifferInNodes}
 use Rattle.process_laws.specs.HeardAnswers.{IsOfOneMaster, TellsOfRunId}
 use Rattle.process_laws.specs.Openings.{IsGreeting}
 use Rattle.process_laws.specs.OwnActions.{place_of, own_of}
-use Rattle.process_laws.specs.SharedConnections.{ServedBeside}
+use Rattle.process_laws.specs.SharedConnections.{IsLater}
 
 -- ---- what one process did
 
@@ -122,16 +122,25 @@ IsAboutOne plan (AsksRow name) = Unit {0}
 abbrev pub IsOneValue : List ℕ → Type 0
 IsOneValue bytes = (answer : Frame) × (bytes ≡ spelling answer) × IsPlain answer
 
+-- The answers to these values, in their order, as in ServedBeside; but the port may have been asked for a vote in an epoch that is too far above the one that the
+-- connection was told, and have heard that as one in epoch 0
+abbrev pub ServedOn : World → Guest → List Frame → List ℕ → Guest → Type 0
+ServedOn start g [] bytes h = (bytes ≡ []) × (h ≡ g)
+ServedOn start g (value ∷ values) bytes h =
+    (now : ℕ) × (next : Guest) × (middle : Guest) × (first : List ℕ) × (rest : List ℕ) × (bytes ≡ first ++ rest)
+    × IsLater g next × TellsClient start now next value first middle × ServedOn start middle values rest h
+
 -- where it is the question for a row, it is answered by one value
-abbrev pub IsAnsweredRow : (value : Frame) → (bytes : List ℕ) → Type 0
-IsAnsweredRow value bytes = (name : List ℕ) → value ≡ row_frame name → IsOneValue bytes
+abbrev pub IsAnsweredRow : Guest → (value : Frame) → (bytes : List ℕ) → Type 0
+IsAnsweredRow g value bytes = (name : List ℕ) → value ≡ row_frame name → IsOneValue bytes
 
 -- of each value that was served Q holds, with its answer, and where it took a turn, P of all that the seat had seen after it
-abbrev pub EachTurn : (P : List Entry → Type 0) → (Q : Frame → List ℕ → Type 0) → (start : World) (g : Guest) (values : List Frame) (bytes : List ℕ) (h : Guest)
-    → ServedBeside start g values bytes h → Type 0
+abbrev pub EachTurn : (P : List Entry → Type 0) → (Q : Guest → Frame → List ℕ → Type 0) → (start : World) (g : Guest) (values : List Frame) (bytes : List ℕ) (h : Guest)
+    → ServedOn start g values bytes h → Type 0
 EachTurn P Q start g [] bytes h served = Unit {0}
 EachTurn P Q start g (value ∷ values) bytes h served =
-    ((served.2.party.view.front ≡ served.1.party.view.front) ⊎ P served.2.party.view.front) × Q value served.3 × EachTurn P Q start served.2 values served.4 h served.9
+    ((served.2.party.view.front ≡ served.1.party.view.front) ⊎ P served.2.party.view.front)
+    × Q served.1 value served.3 × EachTurn P Q start served.2 values served.4 h served.8
 
 -- each run id that a message tells of is one, as every value of its type is
 abbrev pub TellsOfRunIds : Output → Type 0
@@ -171,7 +180,7 @@ pub record IsCarried (roster : Roster) (before : List Action) (i : ℕ) (id : Ru
   pub parts : Parts got values unread
   pub bytes : List ℕ
   pub h : Guest
-  pub served : ServedBeside start g values bytes h
+  pub served : ServedOn start g values bytes h
   pub turns : EachTurn (HasAnswered before start.plan.place i) IsAnsweredRow start g values bytes h served
   pub not_yet_come : List ℕ
   pub put_out : flat_map spelling greeting ++ bytes ≡ came ++ not_yet_come
