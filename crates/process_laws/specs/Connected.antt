@@ -156,9 +156,11 @@ pub record HasAnswered (before : List Action) (place i : ℕ) (front : List Entr
   pub took : Contains before (Took place entry (SentinelAt i) left)
   pub ids : AllByRecursion TellsOfRunIds entry.outputs
 
--- TCP, and the other end: what came on a connection of Sentinel i, for what was asked on it, is a first part of what one connection of some Sentinel's port put out for a first
--- part of what went out. The process of that began in this world; what it answered there it took before, when Sentinel i asked. The link logged in and asked whether it
--- has this run id before all words. The login was answered by one value, after which no password is owed
+-- What came on a connection of Sentinel i, for what was asked on it.
+-- TCP: it is a first part of what one connection of a port put out for a first part of what went out.
+-- The other end: a process that began in this world, of a Sentinel whose roster differs from the group's in data nodes alone. Each turn that it took for this connection is one
+-- that it took before, asked by Sentinel i. A login was answered by one value, after which no password is owed, and so is each question for a row.
+-- The link logged in, and asked whether the other end has this run id, before all words. Each question is about a master that alone has the address, at the other end
 pub record IsCarried (roster : Roster) (before : List Action) (i : ℕ) (id : RunId) (start : World) (asked : List Question) (came : List ℕ) : Type 0 where
   pub login : Login
   pub words : List LinkWord
