@@ -1,10 +1,14 @@
 -- Processes that are connected are what the laws of processes ask.
-use Rattle.std.proofs.Common.{◌≡◌, ℕ, zero, suc, ◌<◌, Bool, true, cond, List, [], ◌∷◌, ◌++◌, map, length, append_assoc, refl, sym, ap, ◌∙◌, subst, inl, inr, ⊎_elim, arith}
-use Rattle.std.specs.Prelude.{◌⊎◌, Contains, slice_index_or, false}
+use Rattle.std.proofs.Common.{◌≡◌, ℕ, zero, suc, ◌<◌, ◌≤◌, Bool, true, false, true≢false, cond, List, [], ◌∷◌, ◌++◌, map, length, append_assoc, refl, sym, ap, ◌∙◌, subst, inl, inr, ⊎_elim, arith}
+use Rattle.std.specs.Prelude.{◌⊎◌, Contains, slice_index_or}
 use Rattle.std.specs.List.{AllByRecursion}
 use Rattle.std.proofs.lemmas.List.{same_from_push}
 use Rattle.std.proofs.lemmas.List.Elements.{Contains-append_left, Contains-append_right}
 use mathlib.Core.List.{append-nil}
+use mathlib.Core.Logic.{∥∥₁_elim, ∥∥₁_map, ∥∥₁_map₂}
+use native.Mathlib.Nat.{ℕ_set}
+use native.Mathlib.Bridge.{le_prop}
+use Rattle.ballot_law.specs.declared.addresses.Addr.{Addr}
 use Rattle.ballot_law.specs.declared.cards.Kept.{Kept}
 use Rattle.ballot_law.specs.declared.events.Event.{Event}
 use Rattle.ballot_law.specs.declared.messages.Body.{Body}
@@ -13,7 +17,8 @@ use Rattle.ballot_law.specs.declared.messages.NodeName.{NodeName}
 use Rattle.ballot_law.specs.declared.messages.NodeName.TheVariants.{SentinelAt}
 use Rattle.ballot_law.specs.declared.messages.Output.TheVariants.{Send}
 use Rattle.ballot_law.specs.declared.steps.KeptText.{KeptText}
-use Rattle.ballot_law.specs.Law.{HasOneLeader, HasOneAddress}
+use Rattle.ballot_law.specs.Ballots.{card_of}
+use Rattle.ballot_law.specs.Law.{IsStart, HasOneLeader, HasOneAddress}
 use Rattle.ballot_law.specs.declared.rosters.Member.{Member}
 use Rattle.ballot_law.specs.Rosters.{Roster, size, id_of, no_member, HasDistinctIds}
 use Rattle.ballot_law.specs.Worlds.{World as Group}
@@ -24,9 +29,10 @@ use Rattle.sentinel_cell.specs.declared.entry.Outcome.{Outcome}
 use Rattle.sentinel_cell.specs.declared.entry.Outcome.TheVariants.{Stored, Refused, Halted}
 use Rattle.sentinel_cell.specs.declared.view.View.{View}
 use Rattle.sentinel_cell.specs.EntrySteps.{kept_left}
-use Rattle.sentinel_cell.specs.Histories.{World, IsOutcome, AreSteps, after, after_outcome, replay}
+use Rattle.sentinel_cell.specs.Histories.{World, IsOutcome, AreSteps, after, after_outcome, replay, same_kept}
+use Rattle.sentinel_cell.proofs.Keeping.{kept_true, kept_same}
 use Rattle.sentinel_rules.specs.Plans.{Plan, roster_of, me, group_size}
-use Rattle.process_laws.specs.Actions.{Action, Opened, Took, Told, Process, IsOpened, IsHeard, file_after, sent_by, action_after, actions_after, all_sent, all_said, all_elected, AreActions, at_first, FilesNeverFall}
+use Rattle.process_laws.specs.Actions.{Action, Opened, Took, Told, Process, IsOpened, IsHeard, file_after, sent_by, action_after, actions_after, all_sent, all_said, all_elected, AreActions, at_first, FilesNeverFall, StoredIsFiled}
 use Rattle.process_laws.specs.Connections.{IsAskable, IsDelivered, port_answer}
 use Rattle.process_laws.specs.Connected.{Deed, Takes, Tells, Life, history_of, filed, file_of, IsOfMasters, AreLives, action_of, actions_of, LinkWord, Says, AsksRow, IsAskableWord, IsAboutOne, IsAnsweredRow, TellsOfRunIds, HasAnswered, IsCarried, IsHeardFrom, MayTake, ConnectedProcessesAreSafe}
 use Rattle.process_laws.specs.HeardAnswers.{IsOfOneMaster}
@@ -35,7 +41,7 @@ use Rattle.process_laws.proofs.HeardAnswers.{answers_are_heard}
 use Rattle.process_laws.proofs.Openings.{IsLinked, links_deliver}
 use Rattle.process_laws.proofs.OwnActions.{own_actions_are_actions}
 use Rattle.process_laws.proofs.Safety.{after_both, processes_are_safe}
-use Rattle.process_laws.proofs.SharedConnections.{AreDeliveredSo}
+use Rattle.process_laws.proofs.SharedConnections.{AreDeliveredSo, IsKeptSo, heard_kept}
 use Rattle.process_laws.proofs.Words.{RowIsOne}
 
 -- ---- what each process did by itself
@@ -115,22 +121,22 @@ module _ (before : List Action) (start : World) (i : ℕ) (plan : Plan) (stores 
       (subst (λ (e : Entry). Contains (sent_by (Took start.plan.place e (SentinelAt i) a.left)) message) (sym entry_is) sent))
 
   heard_so : (v : View) (words : List LinkWord) (events : List Event) (event : Event) → AllByRecursion IsAskableWord words
-      → AllByRecursion (IsAboutOne start.plan) words → AreDeliveredSo (Asked before start i) start (SentinelAt i) v words events → Contains events event
+      → AllByRecursion (IsAboutOne start.plan) words → AreDeliveredSo (Asked before start i) IsKeptSo start (SentinelAt i) v words events → Contains events event
       → IsHeard plan stores (all_sent before) i event
   heard_so v words [] event askable one d there = let low = there.1 in absurd (omega (arith, low))
   heard_so v [] (e ∷ events) event askable one d there = absurd d
   heard_so v (AsksRow name ∷ words) (e ∷ events) event askable one d there = heard_so v words (e ∷ events) event askable.1 one.1 d there
   heard_so v (Says question ∷ words) (e ∷ events) event askable one d there =
       ⊎_elim
-      (λ (is : e ≡ event). subst (IsHeard plan stores (all_sent before) i) is (one_heard v d.0 question e askable.0 one.0 d.1 d.2))
-      (λ (later : Contains events event). heard_so d.0 words events event askable.1 one.1 d.3 later)
+      (λ (is : e ≡ event). subst (IsHeard plan stores (all_sent before) i) is (one_heard v d.2 d.0 e d.1.0 (d.1.2 start.plan one.0) d.3 d.4))
+      (λ (later : Contains events event). heard_so d.2 words events event askable.1 one.1 d.5 later)
       (by_index e event events there.0 there.1 there.2)
 
 -- a row is answered by one value
 rows_are_one : (words : List LinkWord) → AllByRecursion (RowIsOne IsAnsweredRow) words
 rows_are_one [] = tt
 rows_are_one (Says body ∷ words) = (tt, rows_are_one words)
-rows_are_one (AsksRow name ∷ words) = (λ bytes answered. answered name refl, rows_are_one words)
+rows_are_one (AsksRow name ∷ words) = (λ g bytes answered. answered name refl, rows_are_one words)
 
 module _ (roster : Roster) (plan : Plan) (stores : ℕ) (before : List Action) (i k : ℕ) (event : Event) (h : IsHeardFrom roster before i k event) where
   abbrev c : IsCarried roster before i (id_of roster k) h.start h.asked h.came
@@ -184,14 +190,14 @@ module _ (roster : Roster) (plan : Plan) (stores : ℕ) (before : List Action) (
       ⊎_elim
       (λ (none : heard_there ≡ []). let low = (subst (λ (l : List Event). Contains l event) none among).1 in absurd (omega (arith, low)))
       (λ goes. heard_so before h.start i plan stores c.g.party.view c.words heard_there event c.askable c.alone (goes.2 (ap SentinelAt (met ids goes.0 goes.1))) among)
-      (links_deliver (Asked before h.start i) IsAnsweredRow h.start (SentinelAt i) (SentinelAt k) c.g c.login (id_of roster k) c.words heard_there linked)
+      (links_deliver (Asked before h.start i) IsAnsweredRow IsKeptSo (λ g question bytes askable answered. heard_kept g.asker.current question askable) h.start (SentinelAt i) (SentinelAt k) c.g c.login (id_of roster k) c.words heard_there linked)
 
 -- what may be taken is heard as the laws of processes ask it
 taken_is_heard : (roster : Roster) (plan : Plan) (stores : ℕ) (before : List Action) (i : ℕ) (event : Event) → HasDistinctIds roster
-    → MayTake roster plan stores before i event → IsHeard plan stores (all_sent before) i event
-taken_is_heard roster plan stores before i event ids (inl free) = inl free
-taken_is_heard roster plan stores before i event ids (inr (inl hello)) = inr (inr hello)
-taken_is_heard roster plan stores before i event ids (inr (inr came)) = over_connection roster plan stores before i came.0 event came.1 ids
+    → MayTake roster plan stores before i event → ∥ IsHeard plan stores (all_sent before) i event ∥₁
+taken_is_heard roster plan stores before i event ids (inl free) = ∣ inl free ∣₁
+taken_is_heard roster plan stores before i event ids (inr told) =
+    ∥∥₁_map told (λ by. ⊎_elim (λ hello. inr (inr hello)) (λ came. over_connection roster plan stores before i came.0 event came.1 ids) by)
 
 -- ---- all of them, in their order
 
@@ -216,34 +222,73 @@ on_after start before d ds h =
     sent_both before (d ∷ []) ∙ ap (λ (l : List Message). all_sent before ++ l) (append-nil (sent_by d)) in
     subst (λ (x : (ℕ → Process) × List Message). HearWell (length start.stores) x.0 x.1 ds) (λ j. (after_both (at_first start) before (d ∷ []) j, sent_is j)) h
 
-hear_on : (roster : Roster) (start : Group) (order : List Action) → HasDistinctIds roster → EachHears roster start order → (before ds : List Action) → order ≡ before ++ ds → HearOn start before ds
-hear_on roster start order ids hears before [] cut = tt
+hear_on : (roster : Roster) (start : Group) (order : List Action) → HasDistinctIds roster → EachHears roster start order → (before ds : List Action) → order ≡ before ++ ds
+    → ∥ HearOn start before ds ∥₁
+hear_on roster start order ids hears before [] cut = ∣ tt ∣₁
 hear_on roster start order ids hears before (Opened i w now ∷ ds) cut =
     let d = Opened i w now in
-    (tt, on_after start before d ds (hear_on roster start order ids hears (before ++ d ∷ []) ds (cut ∙ sym (append_assoc before (d ∷ []) ds))))
+    ∥∥₁_map (hear_on roster start order ids hears (before ++ d ∷ []) ds (cut ∙ sym (append_assoc before (d ∷ []) ds))) (λ rest. (tt, on_after start before d ds rest))
 hear_on roster start order ids hears before (Told i m ∷ ds) cut =
     let d = Told i m in
-    (tt, on_after start before d ds (hear_on roster start order ids hears (before ++ d ∷ []) ds (cut ∙ sym (append_assoc before (d ∷ []) ds))))
+    ∥∥₁_map (hear_on roster start order ids hears (before ++ d ∷ []) ds (cut ∙ sym (append_assoc before (d ∷ []) ds))) (λ rest. (tt, on_after start before d ds rest))
 hear_on roster start order ids hears before (Took i e asker left ∷ ds) cut =
     let d = Took i e asker left in
-    let plan = (actions_after (at_first start) before i).world.plan in (
-      taken_is_heard roster plan (length start.stores) before i e.input.event ids (hears i e asker left before ds cut),
-      on_after start before d ds (hear_on roster start order ids hears (before ++ d ∷ []) ds (cut ∙ sym (append_assoc before (d ∷ []) ds))),
+    let plan = (actions_after (at_first start) before i).world.plan in
+    ∥∥₁_map₂ (taken_is_heard roster plan (length start.stores) before i e.input.event ids (hears i e asker left before ds cut))
+    (hear_on roster start order ids hears (before ++ d ∷ []) ds (cut ∙ sym (append_assoc before (d ∷ []) ds)))
+    (λ one rest. (one, on_after start before d ds rest))
+
+-- ---- so the laws hold, whichever connections those were
+
+abbrev All : Roster → Group → List Action → Type 0
+All roster start order = AreActions roster (length start.stores) (at_first start) [] order
+
+-- of all actions and none after them
+whole : (roster : Roster) (start : Group) (order : List Action) → HasDistinctIds roster → IsStart roster start → All roster start order
+    → HasOneLeader (all_elected (at_first start) order) × HasOneAddress (all_said roster (at_first start) order)
+whole roster start order ids is all =
+    let safe = processes_are_safe roster start order [] ids is (subst (All roster start) (sym (append-nil order)) all) in (
+      subst (λ (l : List Action). HasOneLeader (all_elected (at_first start) l)) (append-nil order) safe.0,
+      subst (λ (l : List Action). HasOneAddress (all_said roster (at_first start) l)) (append-nil order) safe.1,
     )
+
+-- at each moment
+moment : (roster : Roster) (start : Group) (order before later : List Action) → HasDistinctIds roster → IsStart roster start → order ≡ before ++ later → All roster start order
+    → FilesNeverFall roster (actions_after (at_first start) before) (actions_after (at_first start) order) × StoredIsFiled (actions_after (at_first start) before)
+moment roster start order before later ids is cut all =
+    let safe = processes_are_safe roster start before later ids is (subst (All roster start) cut all) in
+    (subst (λ (l : List Action). FilesNeverFall roster (actions_after (at_first start) before) (actions_after (at_first start) l)) (sym cut) safe.2, safe.3)
+
+merely_kept : (one other : Kept) → ∥ one ≡ other ∥₁ → one ≡ other
+merely_kept one other same = by_test (same_kept one other) refl
+  where
+    by_test : (test : Bool) → same_kept one other ≡ test → one ≡ other
+    by_test true is = kept_true one other is
+    by_test false is = absurd (∥∥₁_elim same (λ x y. absurd x) (λ (e : one ≡ other). true≢false (sym (kept_same one other e) ∙ is)))
+
+merely_most : (x y : ℕ) → ∥ x ≤ y ∥₁ → x ≤ y
+merely_most x y most = ∥∥₁_elim most le_prop (λ (low : x ≤ y). low)
 
 pub connected_processes_are_safe : ConnectedProcessesAreSafe
 connected_processes_are_safe roster start lives order ids is c =
     let own = λ (i : ℕ) (low : i < size roster). subst (AreOwnActions roster (at_first start i)) (sym (c.own i low))
     (lives_are_own roster i (at_first start i) (at_first start i).file (lives i) refl (c.lived i low)) in
-    let all : AreActions roster (length start.stores) (at_first start) [] order =
-    own_actions_are_actions roster (length start.stores) (at_first start) [] order c.no_others own (hear_on roster start order ids c.heard [] order refl) in
-    let whole = processes_are_safe roster start order [] ids is (subst (AreActions roster (length start.stores) (at_first start) []) (sym (append-nil order)) all) in (
+    let all : ∥ All roster start order ∥₁ =
+    ∥∥₁_map (hear_on roster start order ids c.heard [] order refl)
+    (λ hears. own_actions_are_actions roster (length start.stores) (at_first start) [] order c.no_others own hears) in (
       all,
-      subst (λ (l : List Action). HasOneLeader (all_elected (at_first start) l)) (append-nil order) whole.0,
-      subst (λ (l : List Action). HasOneAddress (all_said roster (at_first start) l)) (append-nil order) whole.1,
-      λ before later cut.
-          let safe = processes_are_safe roster start before later ids is (subst (AreActions roster (length start.stores) (at_first start) []) cut all) in (
-            subst (λ (l : List Action). FilesNeverFall roster (actions_after (at_first start) before) (actions_after (at_first start) l)) (sym cut) safe.2,
-            safe.3,
-          ),
+      λ i j m e one other. ∥∥₁_elim all (ℕ_set i j) (λ a. (whole roster start order ids is a).0 i j m e one other),
+      λ i j m one other shown told same.
+          let both = λ (a : All roster start order). (whole roster start order ids is a).1 i j m one other shown told same in
+          let ip : one.addr.ip ≡ other.addr.ip = ∥∥₁_elim all (ℕ_set one.addr.ip other.addr.ip) (λ a. ap (λ (x : Addr). x.ip) (both a)) in
+          let port : one.addr.port ≡ other.addr.port = ∥∥₁_elim all (ℕ_set one.addr.port other.addr.port) (λ a. ap (λ (x : Addr). x.port) (both a)) in
+          λ t. record { ip = ip t; port = port t },
+      λ before later cut. (
+        λ i m low.
+            merely_most (card_of (actions_after (at_first start) before i).file m).epoch (card_of (actions_after (at_first start) order i).file m).epoch
+            (∥∥₁_map all (λ a. (moment roster start order before later ids is cut a).0 i m low)),
+        λ i runs up.
+            merely_kept (actions_after (at_first start) before i).world.stored (actions_after (at_first start) before i).file
+            (∥∥₁_map all (λ a. (moment roster start order before later ids is cut a).1 i runs up)),
+      ),
     )

@@ -44,13 +44,12 @@ use Rattle.sentinel_cell.specs.Histories.{World, replay}
 use Rattle.sentinel_cell.proofs.Cards.{same_plan}
 use Rattle.sentinel_rules.specs.Plans.{Plan, me, group_size}
 use Rattle.process_laws.specs.Connections.{AreDelivered}
-use Rattle.process_laws.specs.Connected.{LinkWord, Says, bytes_of, question_for, IsAskableWord, EachTurn}
-use Rattle.process_laws.specs.SharedConnections.{ServedBeside}
+use Rattle.process_laws.specs.Connected.{LinkWord, Says, bytes_of, question_for, IsAskableWord, ServedOn, EachTurn}
 use Rattle.process_laws.specs.Openings.{IsGreeting, IsConnectedAnew, NewConnectionsDeliver, PiecesAreANewConnection}
 use Rattle.process_laws.proofs.OwnCommands.{own_answer}
 use Rattle.process_laws.proofs.Joining.{spelled_some, by_first}
 use Rattle.process_laws.proofs.Pieces.{questions_spelled, served_as_sent}
-use Rattle.process_laws.proofs.SharedConnections.{AreDeliveredSo, only_delivered, later_all, Anything, Whatever, any_turn, delivered}
+use Rattle.process_laws.proofs.SharedConnections.{AreDeliveredSo, only_delivered, later_all, Whatever, Nears, IsItself, HearsSo, hears_near, served_near, delivered}
 use Rattle.process_laws.proofs.Turns.{answers, turned, no_null}
 use Rattle.process_laws.proofs.Words.{TellsNothing, order_tells, passed_over, RowIsOne, said_bytes, said_asked, said_askable, said_no_row}
 
@@ -145,22 +144,23 @@ same_run_id node id own got is e =
 -- ---- what is delivered later
 
 -- nothing was heard, or the other end has this run id, and what was heard in its name is delivered
-abbrev pub Goes : (List Entry → Type 0) → World → (asker voter : NodeName) → Guest → RunId → List LinkWord → List Event → Type 0
-Goes P start asker voter g id words events =
+abbrev pub Goes : (List Entry → Type 0) → (Body → Body → Type 0) → World → (asker voter : NodeName) → Guest → RunId → List LinkWord → List Event → Type 0
+Goes P R start asker voter g id words events =
     (events ≡ []) ⊎ ((me start.plan ≡ id) × (start.plan.place < group_size start.plan)
-    × (voter ≡ SentinelAt start.plan.place → AreDeliveredSo P start asker g.party.view words events))
+    × (voter ≡ SentinelAt start.plan.place → AreDeliveredSo P R start asker g.party.view words events))
 
 -- ---- after the login
 
-module _ (P : List Entry → Type 0) (Q : Frame → List ℕ → Type 0) (start : World) (asker voter : NodeName) (id : RunId) where
+module _ (P : List Entry → Type 0) (Q : Guest → Frame → List ℕ → Type 0) (R : Body → Body → Type 0) (hears : HearsSo Q R) (start : World) (asker voter : NodeName)
+    (id : RunId) where
   identified : (words : List LinkWord) (g : Guest) (values : List Frame) (unread not_yet_got bytes : List ℕ) (h : Guest)
       (replies : List Frame) (held not_yet_come : List ℕ) (events : List Event) (left : List Question)
       → AllByRecursion (RowIsOne Q) words → AllByRecursion IsAskableWord words → is_stranger g.asker ≡ false → is_listening g.listening ≡ false → g.party.listens ≡ None
       → spelling id_value ++ flat_map bytes_of words ≡ (flat_map spelling values ++ unread) ++ not_yet_got → AllByRecursion IsFrame values
-      → (served : ServedBeside start g values bytes h) → EachTurn P Q start g values bytes h served
+      → (served : ServedOn start g values bytes h) → EachTurn P Q start g values bytes h served
       → bytes ≡ (flat_map spelling replies ++ held) ++ not_yet_come → AllByRecursion IsLinkValue replies
       → Tells voter false (Identity id ∷ map question_for words) replies events left
-      → Goes P start asker voter g id words events
+      → Goes P R start asker voter g id words events
   identified words g values unread not_yet_got bytes h [] held not_yet_come events left rows askable known quiet silent sent whole served turns put_out read tells = inl tells.0
   identified words g [] unread not_yet_got bytes h (r ∷ rs) held not_yet_come events left rows askable known quiet silent sent whole served turns put_out read tells =
       absurd (spelled_some r ((flat_map spelling rs ++ held) ++ not_yet_come) (sym served.0 ∙ put_out ∙ by_first r rs held not_yet_come))
@@ -174,7 +174,7 @@ module _ (P : List Entry → Type 0) (Q : Frame → List ℕ → Type 0) (start 
       let first = served.3 in
       let others = served.4 in
       let later = served.6 in
-      let serves : TellsClient start served.0 next id_value first middle = subst (λ (f : Frame). TellsClient start served.0 next f first middle) (sym value_is.0) served.8 in
+      let serves : TellsClient start served.0 next id_value first middle = subst (λ (f : Frame). TellsClient start served.0 next f first middle) (sym value_is.0) served.7 in
       let reply = id_replied start served.0 next first middle (later.known ∙ known) (ap is_listening later.quiet ∙ quiet) (later.silent ∙ silent) serves in
       let own = me start.plan in
       let len = length-id_text own in
@@ -194,15 +194,15 @@ module _ (P : List Entry → Type 0) (Q : Frame → List ℕ → Type 0) (start 
         reply.0.place,
         λ (named : voter ≡ SentinelAt start.plan.place).
             let tells_on = subst (λ (n : NodeName). Tells n false (map question_for words) rs events left) named rest.tells in
-            later_all P start asker g.party.view middle.party.view (later.more ++ reply.0.more) words events front
-            (delivered P Q start asker words middle xs unread not_yet_got others h rs held not_yet_come events left rows askable known_then quiet_then reply.1 value_is.1 whole.1
-            served.9 turns.2 reply_is.1 read.1 tells_on),
+            later_all P R start asker g.party.view middle.party.view (later.more ++ reply.0.more) words events front
+            (delivered P Q R hears start asker words middle xs unread not_yet_got others h rs held not_yet_come events left rows askable known_then quiet_then reply.1 value_is.1 whole.1
+            served.8 turns.2 reply_is.1 read.1 tells_on),
       )
 
 -- ---- from the beginning
 
 -- a connection from its opening on, to whichever node the link takes it to be
-pub record IsLinked (P : List Entry → Type 0) (Q : Frame → List ℕ → Type 0) (start : World) (voter : NodeName) (g : Guest) (login : Login) (id : RunId)
+pub record IsLinked (P : List Entry → Type 0) (Q : Guest → Frame → List ℕ → Type 0) (start : World) (voter : NodeName) (g : Guest) (login : Login) (id : RunId)
     (words : List LinkWord) (events : List Event) : Type 0 where
   pub rows : AllByRecursion (RowIsOne Q) words
   pub askable : AllByRecursion IsAskableWord words
@@ -219,7 +219,7 @@ pub record IsLinked (P : List Entry → Type 0) (Q : Frame → List ℕ → Type
   pub parts : Parts got values unread
   pub bytes : List ℕ
   pub h : Guest
-  pub served : ServedBeside start g values bytes h
+  pub served : ServedOn start g values bytes h
   pub turns : EachTurn P Q start g values bytes h served
   pub came : List ℕ
   pub not_yet_come : List ℕ
@@ -230,18 +230,18 @@ pub record IsLinked (P : List Entry → Type 0) (Q : Frame → List ℕ → Type
   pub left : List Question
   pub tells : Tells voter false (login_questions login ++ (id_questions (Some id) ++ map question_for words)) replies events left
 
-module _ (P : List Entry → Type 0) (Q : Frame → List ℕ → Type 0) (start : World) (asker voter : NodeName) (g : Guest) (login : Login) (id : RunId) (words : List LinkWord)
-    (events : List Event) (c : IsLinked P Q start voter g login id words events) where
+module _ (P : List Entry → Type 0) (Q : Guest → Frame → List ℕ → Type 0) (R : Body → Body → Type 0) (hears : HearsSo Q R) (start : World) (asker voter : NodeName)
+    (g : Guest) (login : Login) (id : RunId) (words : List LinkWord) (events : List Event) (c : IsLinked P Q start voter g login id words events) where
   -- no login
-  without_login : c.greeting ≡ [] → Tells voter false (Identity id ∷ map question_for words) c.replies events c.left → Goes P start asker voter g id words events
+  without_login : c.greeting ≡ [] → Tells voter false (Identity id ∷ map question_for words) c.replies events c.left → Goes P R start asker voter g id words events
   without_login none asks =
-      identified P Q start asker voter id words g c.values c.unread c.not_yet_got c.bytes c.h c.replies c.held c.not_yet_come events c.left c.rows c.askable c.known c.quiet
+      identified P Q R hears start asker voter id words g c.values c.unread c.not_yet_got c.bytes c.h c.replies c.held c.not_yet_come events c.left c.rows c.askable c.known c.quiet
       c.silent (c.sent ∙ ap (λ (t : List ℕ). t ++ c.not_yet_got) c.parts.0) c.parts.1 c.served c.turns
       (ap (λ (l : List Frame). flat_map spelling l ++ c.bytes) (sym none) ∙ (c.put_out ∙ ap (λ (t : List ℕ). t ++ c.not_yet_come) c.read.0)) c.read.1 asks
 
   -- a login, answered by one value
   with_login : (answer : Frame) → c.greeting ≡ answer ∷ [] → IsPlain answer → (replies : List Frame) → c.replies ≡ replies
-      → Tells voter false (Order ∷ (Identity id ∷ map question_for words)) replies events c.left → Goes P start asker voter g id words events
+      → Tells voter false (Order ∷ (Identity id ∷ map question_for words)) replies events c.left → Goes P R start asker voter g id words events
   with_login answer one plain [] same asks = inl asks.0
   with_login answer one plain (r ∷ rs) same asks =
       let read : AllByRecursion IsLinkValue (r ∷ rs) = subst (AllByRecursion IsLinkValue) same c.read.1 in
@@ -252,22 +252,22 @@ module _ (P : List Entry → Type 0) (Q : Frame → List ℕ → Type 0) (start 
       greeted ∙ (c.put_out ∙ (ap (λ (t : List ℕ). t ++ c.not_yet_come) came ∙ by_first r rs c.held c.not_yet_come)) in
       let greeting_is = one_spelling answer r c.bytes ((flat_map spelling rs ++ c.held) ++ c.not_yet_come) plain (value_plain r read.0) whole in
       let rest = passed_over voter Order (Identity id ∷ map question_for words) r rs events c.left (order_tells voter) asks in
-      identified P Q start asker voter id words g c.values c.unread c.not_yet_got c.bytes c.h rs c.held c.not_yet_come events c.left c.rows c.askable c.known c.quiet c.silent
+      identified P Q R hears start asker voter id words g c.values c.unread c.not_yet_got c.bytes c.h rs c.held c.not_yet_come events c.left c.rows c.askable c.known c.quiet c.silent
       (c.sent ∙ ap (λ (t : List ℕ). t ++ c.not_yet_got) c.parts.0) c.parts.1 c.served c.turns greeting_is.1 read.1 rest.tells
 
-pub links_deliver : (P : List Entry → Type 0) (Q : Frame → List ℕ → Type 0) (start : World) (asker voter : NodeName) (g : Guest) (login : Login) (id : RunId)
-    (words : List LinkWord) (events : List Event) → IsLinked P Q start voter g login id words events → Goes P start asker voter g id words events
-links_deliver P Q start asker voter g Without id words events c = without_login P Q start asker voter g Without id words events c c.greets c.tells
-links_deliver P Q start asker voter g (Pass pass) id words events c =
-    with_login P Q start asker voter g (Pass pass) id words events c c.greets.0 c.greets.1 c.greets.2 c.replies refl c.tells
-links_deliver P Q start asker voter g (User user pass) id words events c =
-    with_login P Q start asker voter g (User user pass) id words events c c.greets.0 c.greets.1 c.greets.2 c.replies refl c.tells
+pub links_deliver : (P : List Entry → Type 0) (Q : Guest → Frame → List ℕ → Type 0) (R : Body → Body → Type 0) → HearsSo Q R → (start : World) (asker voter : NodeName) (g : Guest) (login : Login) (id : RunId)
+    (words : List LinkWord) (events : List Event) → IsLinked P Q start voter g login id words events → Goes P R start asker voter g id words events
+links_deliver P Q R hears start asker voter g Without id words events c = without_login P Q R hears start asker voter g Without id words events c c.greets c.tells
+links_deliver P Q R hears start asker voter g (Pass pass) id words events c =
+    with_login P Q R hears start asker voter g (Pass pass) id words events c c.greets.0 c.greets.1 c.greets.2 c.replies refl c.tells
+links_deliver P Q R hears start asker voter g (User user pass) id words events c =
+    with_login P Q R hears start asker voter g (User user pass) id words events c c.greets.0 c.greets.1 c.greets.2 c.replies refl c.tells
 
 -- where nothing but messages was put out
 linked : (start : World) (g : Guest) (login : Login) (id : RunId) (questions : List Body) (events : List Event) → IsConnectedAnew start g login id questions events
-    → IsLinked Whatever Anything start (SentinelAt start.plan.place) g login id (map Says questions) events
+    → IsLinked Whatever Nears start (SentinelAt start.plan.place) g login id (map Says questions) events
 linked start g login id questions events c = record {
-  rows = said_no_row Anything questions;
+  rows = said_no_row Nears questions;
   askable = said_askable questions c.askable;
   known = c.known;
   quiet = c.quiet;
@@ -282,8 +282,8 @@ linked start g login id questions events c = record {
   parts = c.parts;
   bytes = c.bytes;
   h = c.h;
-  served = c.served;
-  turns = any_turn start g c.values c.bytes c.h c.served;
+  served = (served_near start g c.values c.bytes c.h c.served).0;
+  turns = (served_near start g c.values c.bytes c.h c.served).1;
   came = c.came;
   not_yet_come = c.not_yet_come;
   put_out = c.put_out;
@@ -300,7 +300,7 @@ nothing_heard start asker v questions events none = subst (λ (l : List Event). 
 
 pub new_connections_deliver : NewConnectionsDeliver
 new_connections_deliver start asker g login id questions events c =
-    let goes = links_deliver Whatever Anything start asker (SentinelAt start.plan.place) g login id (map Says questions) events (linked start g login id questions events c) in
+    let goes = links_deliver Whatever Nears IsItself hears_near start asker (SentinelAt start.plan.place) g login id (map Says questions) events (linked start g login id questions events c) in
     ⊎_elim (λ (none : events ≡ []). (nothing_heard start asker g.party.view questions events none, inl none))
     (λ heard. (only_delivered Whatever start asker g.party.view questions events (heard.2 refl), inr heard.0))
     goes

@@ -18,11 +18,11 @@ use Rattle.resp2.specs.Framing.Frame.{Frame, spelling, IsFrame}
 use Rattle.resp2.proofs.FramingLemmas.Drains.{nothing_waits}
 use Rattle.sentinel_cell.specs.declared.entry.Entry.{Entry}
 use Rattle.sentinel_cell.specs.Histories.{World}
-use Rattle.process_laws.specs.CarriedPieces.{EachTurnOf, EachTurnInPieces}
-use Rattle.process_laws.specs.Connected.{EachTurn}
+use Rattle.process_laws.specs.CarriedPieces.{AnsweredOn, EachTurnOf, EachTurnInPieces}
+use Rattle.process_laws.specs.Connected.{ServedOn, EachTurn}
 use Rattle.process_laws.specs.Connections.{IsAskable}
 use Rattle.process_laws.specs.SharedConnections.{IsLater, IsNear, ServedBeside, AnsweredInPieces, PiecesAreAConnection}
-use Rattle.process_laws.proofs.SharedConnections.{Whatever, Anything}
+use Rattle.process_laws.proofs.SharedConnections.{Whatever, Nears, served_beside}
 use Rattle.process_laws.proofs.Turns.{question_spelled}
 
 -- ---- the values of a piece
@@ -64,34 +64,33 @@ later_still g next last a b = record {
 }
 
 -- whose values are served from a later moment on, with what holds of each turn
-abbrev IsServedSo : (P : List Entry → Type 0) → (Q : Frame → List ℕ → Type 0) → World → Guest → List Frame → List ℕ → Type 0
-IsServedSo P Q start g values bytes = (h : Guest) × (served : ServedBeside start g values bytes h) × EachTurn P Q start g values bytes h served
+abbrev IsServedSo : (P : List Entry → Type 0) → (Q : Guest → Frame → List ℕ → Type 0) → World → Guest → List Frame → List ℕ → Type 0
+IsServedSo P Q start g values bytes = (h : Guest) × (served : ServedOn start g values bytes h) × EachTurn P Q start g values bytes h served
 
 abbrev pub flat : List (List ℕ) → List ℕ
 flat pieces = flat_map (λ (piece : List ℕ). piece) pieces
 
-record IsServedWhole (P : List Entry → Type 0) (Q : Frame → List ℕ → Type 0) (start : World) (g : Guest) (stream bytes : List ℕ) : Type 0 where
+record IsServedWhole (P : List Entry → Type 0) (Q : Guest → Frame → List ℕ → Type 0) (start : World) (g : Guest) (stream bytes : List ℕ) : Type 0 where
   pub values : List Frame
   pub rest : List ℕ
   pub reads : Reads stream values rest
   pub serves : IsServedSo P Q start g values bytes
 
-module _ (P : List Entry → Type 0) (Q : Frame → List ℕ → Type 0) (start : World) where
+module _ (P : List Entry → Type 0) (Q : Guest → Frame → List ℕ → Type 0) (start : World) where
   served_later : (g next : Guest) (values : List Frame) (bytes : List ℕ) → IsLater g next → IsServedSo P Q start next values bytes → IsServedSo P Q start g values bytes
   served_later g next [] bytes later s = (g, (s.1.0, refl), tt)
   served_later g next (x ∷ xs) bytes later s =
-      let t = s.1 in (s.0, (t.0, t.1, t.2, t.3, t.4, t.5, later_still g next t.1 later t.6, t.7, t.8, t.9), s.2)
+      let t = s.1 in (s.0, (t.0, t.1, t.2, t.3, t.4, t.5, later_still g next t.1 later t.6, t.7, t.8), s.2)
 
-  served_piece : (now : ℕ) (g next : Guest) (values more : List Frame) (bytes rest : List ℕ) (middle : Guest) → IsLater g next → AllByRecursion (IsNear next) values
+  served_piece : (now : ℕ) (g next : Guest) (values more : List Frame) (bytes rest : List ℕ) (middle : Guest) → IsLater g next
       → (serves : ServesAll start now next values bytes middle) → EachTurnOf P Q start now next values bytes middle serves → IsServedSo P Q start middle more rest
       → IsServedSo P Q start g (values ++ more) (bytes ++ rest)
-  served_piece now g next [] more bytes rest middle later near serves turns s =
+  served_piece now g next [] more bytes rest middle later serves turns s =
       subst (λ (t : List ℕ). IsServedSo P Q start g more (t ++ rest)) (sym serves.0)
       (served_later g next more rest later (subst (λ (x : Guest). IsServedSo P Q start x more rest) serves.1 s))
-  served_piece now g next (x ∷ xs) more bytes rest middle later near serves turns s =
+  served_piece now g next (x ∷ xs) more bytes rest middle later serves turns s =
       let answered = serves.0 in
-      let near_still : AllByRecursion (IsNear answered) xs = near_alike next answered xs (current_stays start now next x serves.1 answered serves.4) near.1 in
-      let others = served_piece now answered answered xs more serves.2 rest middle (nothing_between answered) near_still serves.5 turns.2 s in (
+      let others = served_piece now answered answered xs more serves.2 rest middle (nothing_between answered) serves.5 turns.2 s in (
         others.0,
         (
           now,
@@ -101,7 +100,6 @@ module _ (P : List Entry → Type 0) (Q : Frame → List ℕ → Type 0) (start 
           serves.2 ++ rest,
           ap (λ (t : List ℕ). t ++ rest) serves.3 ∙ append_assoc serves.1 serves.2 rest,
           later,
-          near.0,
           serves.4,
           others.1,
         ),
@@ -110,13 +108,13 @@ module _ (P : List Entry → Type 0) (Q : Frame → List ℕ → Type 0) (start 
 
   -- ---- all pieces
 
-  served_whole : (g : Guest) (held : List ℕ) (pieces : List (List ℕ)) (bytes : List ℕ) (a : AnsweredInPieces start g held pieces bytes)
+  served_whole : (g : Guest) (held : List ℕ) (pieces : List (List ℕ)) (bytes : List ℕ) (a : AnsweredOn start g held pieces bytes)
       → EachTurnInPieces P Q start g held pieces bytes a → IsServedWhole P Q start g (held ++ flat pieces) bytes
   served_whole g held [] bytes a turns = record { values = []; rest = held; reads = append-nil held; serves = (g, (a, refl), tt) }
   served_whole g held (piece ∷ pieces) bytes a turns =
       let answered = a.8 in
       let kept = a.3 in
-      let others = served_whole a.2 kept pieces a.5 a.10 turns.1 in
+      let others = served_whole a.2 kept pieces a.5 a.9 turns.1 in
       let read : Reads (held ++ piece) answered.values kept =
       subst (λ (t : List ℕ). Reads (held ++ piece) answered.values t) answered.splits.2.0 answered.splits.1 in
       let both = reads_join (held ++ piece) (flat pieces) kept answered.values others.values others.rest read others.reads in
@@ -126,20 +124,25 @@ module _ (P : List Entry → Type 0) (Q : Frame → List ℕ → Type 0) (start 
         reads = subst (λ (t : List ℕ). Reads t (answered.values ++ others.values) others.rest) (append_assoc held piece (flat pieces)) both;
         serves =
             subst (λ (t : List ℕ). IsServedSo P Q start g (answered.values ++ others.values) t) (sym a.6)
-            (served_piece a.0 g a.1 answered.values others.values a.4 a.5 a.2 a.7 a.9 answered.answers turns.0 others.serves);
+            (served_piece a.0 g a.1 answered.values others.values a.4 a.5 a.2 a.7 answered.answers turns.0 others.serves);
       }
 
--- of no turn anything has to hold
-any_turn_of : (start : World) (now : ℕ) (g : Guest) (values : List Frame) (bytes : List ℕ) (h : Guest) (serves : ServesAll start now g values bytes h)
-    → EachTurnOf Whatever Anything start now g values bytes h serves
-any_turn_of start now g [] bytes h serves = tt
-any_turn_of start now g (value ∷ values) bytes h serves = (inr tt, tt, any_turn_of start now serves.0 values serves.2 h serves.5)
+-- where each value is heard as it is
+near_turns : (start : World) (now : ℕ) (g : Guest) (values : List Frame) (bytes : List ℕ) (h : Guest) (serves : ServesAll start now g values bytes h)
+    → AllByRecursion (IsNear g) values → EachTurnOf Whatever Nears start now g values bytes h serves
+near_turns start now g [] bytes h serves near = tt
+near_turns start now g (value ∷ values) bytes h serves near =
+    let near_still : AllByRecursion (IsNear serves.0) values = near_alike g serves.0 values (current_stays start now g value serves.1 serves.0 serves.4) near.1 in
+    (inr tt, near.0, near_turns start now serves.0 values serves.2 h serves.5 near_still)
 
-pub any_turn_in_pieces : (start : World) (g : Guest) (held : List ℕ) (pieces : List (List ℕ)) (bytes : List ℕ) (a : AnsweredInPieces start g held pieces bytes)
-    → EachTurnInPieces Whatever Anything start g held pieces bytes a
-any_turn_in_pieces start g held [] bytes a = tt
-any_turn_in_pieces start g held (piece ∷ pieces) bytes a =
-    (any_turn_of start a.0 a.1 a.8.values a.4 a.2 a.8.answers, any_turn_in_pieces start a.2 a.3 pieces a.5 a.10)
+near_pieces : (start : World) (g : Guest) (held : List ℕ) (pieces : List (List ℕ)) (bytes : List ℕ) → AnsweredInPieces start g held pieces bytes
+    → (a : AnsweredOn start g held pieces bytes) × EachTurnInPieces Whatever Nears start g held pieces bytes a
+near_pieces start g held [] bytes a = (a, tt)
+near_pieces start g held (piece ∷ pieces) bytes a =
+    let on = near_pieces start a.2 a.3 pieces a.5 a.10 in (
+      (a.0, a.1, a.2, a.3, a.4, a.5, a.6, a.7, a.8, on.0),
+      (near_turns start a.0 a.1 a.8.values a.4 a.2 a.8.answers a.9, on.1),
+    )
 
 -- ---- the values are questions
 
@@ -177,19 +180,19 @@ questions_spelled (a ∷ questions) askable =
     )
 
 -- what the port served, by the values of what it was sent
-pub record IsServedAsSent (P : List Entry → Type 0) (Q : Frame → List ℕ → Type 0) (start : World) (g : Guest) (all bytes : List ℕ) (not_yet_got : List ℕ) : Type 0 where
+pub record IsServedInTurns (P : List Entry → Type 0) (Q : Guest → Frame → List ℕ → Type 0) (start : World) (g : Guest) (all bytes : List ℕ) (not_yet_got : List ℕ) : Type 0 where
   pub values : List Frame
   pub rest : List ℕ
   pub whole : AllByRecursion IsFrame values
   pub sent : all ≡ (flat_map spelling values ++ rest) ++ not_yet_got
   pub h : Guest
-  pub served : ServedBeside start g values bytes h
+  pub served : ServedOn start g values bytes h
   pub turns : EachTurn P Q start g values bytes h served
 
-pub served_in_turns : (P : List Entry → Type 0) (Q : Frame → List ℕ → Type 0) (start : World) (g : Guest) (frames : List Frame) (all : List ℕ) (pieces : List (List ℕ))
+pub served_in_turns : (P : List Entry → Type 0) (Q : Guest → Frame → List ℕ → Type 0) (start : World) (g : Guest) (frames : List Frame) (all : List ℕ) (pieces : List (List ℕ))
     (not_yet_got bytes : List ℕ) → AllByRecursion IsFrame frames
-    → all ≡ flat_map spelling frames → all ≡ flat pieces ++ not_yet_got → (answered : AnsweredInPieces start g [] pieces bytes)
-    → EachTurnInPieces P Q start g [] pieces bytes answered → IsServedAsSent P Q start g all bytes not_yet_got
+    → all ≡ flat_map spelling frames → all ≡ flat pieces ++ not_yet_got → (answered : AnsweredOn start g [] pieces bytes)
+    → EachTurnInPieces P Q start g [] pieces bytes answered → IsServedInTurns P Q start g all bytes not_yet_got
 served_in_turns P Q start g frames all pieces not_yet_got bytes whole spelled sent answered turns =
     let served = served_whole P Q start g [] pieces bytes answered turns in
     let reads : Reads (flat pieces ++ not_yet_got) served.values (served.rest ++ not_yet_got) = reads_longer (flat pieces) served.values served.rest not_yet_got served.reads in
@@ -204,11 +207,21 @@ served_in_turns P Q start g frames all pieces not_yet_got bytes whole spelled se
       turns = served.serves.2;
     }
 
+-- where each value is heard as it is
+pub record IsServedAsSent (start : World) (g : Guest) (all bytes : List ℕ) (not_yet_got : List ℕ) : Type 0 where
+  pub values : List Frame
+  pub rest : List ℕ
+  pub whole : AllByRecursion IsFrame values
+  pub sent : all ≡ (flat_map spelling values ++ rest) ++ not_yet_got
+  pub h : Guest
+  pub served : ServedBeside start g values bytes h
+
 pub served_as_sent : (start : World) (g : Guest) (frames : List Frame) (all : List ℕ) (pieces : List (List ℕ)) (not_yet_got bytes : List ℕ) → AllByRecursion IsFrame frames
-    → all ≡ flat_map spelling frames → all ≡ flat pieces ++ not_yet_got → AnsweredInPieces start g [] pieces bytes
-    → IsServedAsSent Whatever Anything start g all bytes not_yet_got
+    → all ≡ flat_map spelling frames → all ≡ flat pieces ++ not_yet_got → AnsweredInPieces start g [] pieces bytes → IsServedAsSent start g all bytes not_yet_got
 served_as_sent start g frames all pieces not_yet_got bytes whole spelled sent answered =
-    served_in_turns Whatever Anything start g frames all pieces not_yet_got bytes whole spelled sent answered (any_turn_in_pieces start g [] pieces bytes answered)
+    let on = near_pieces start g [] pieces bytes answered in
+    let s = served_in_turns Whatever Nears start g frames all pieces not_yet_got bytes whole spelled sent on.0 on.1 in
+    record { values = s.values; rest = s.rest; whole = s.whole; sent = s.sent; h = s.h; served = served_beside start g s.values bytes s.h s.served s.turns }
 
 pub pieces_are_a_connection : PiecesAreAConnection
 pieces_are_a_connection start g questions events c =

@@ -1,13 +1,14 @@
 -- What two connected processes do is computed, and meets what the law of connected processes asks.
-use Rattle.std.proofs.Common.{◌≡◌, ◌≢◌, ℕ, zero, suc, ◌<◌, ◌≤◌, Bool, true, false, cond, ne_eqb, Option, Some, None, Result, Ok, Err, List, [], ◌∷◌, ◌++◌, append_assoc, refl, sym, ap, subst, ◌∙◌, inl, inr, arith, lit<, lit≤, le_refl}
+use Rattle.std.proofs.Common.{◌≡◌, ◌≢◌, ℕ, zero, suc, ◌<◌, ◌≤◌, Bool, true, false, cond, ne_eqb, Option, Some, None, Result, Ok, List, [], ◌∷◌, ◌++◌, append_assoc, refl, sym, ap, subst, ◌∙◌, inl, inr, arith, lit<, lit≤, le_refl}
 use lib.Utf8.{encode}
 use mathlib.Core.List.{append-nil}
-use Rattle.std.specs.Prelude.{⊤, take}
+use Rattle.std.specs.Prelude.{⊤, take, drop, Contains}
 use Rattle.std.specs.Fmt.{digits}
 use Rattle.std.specs.List.{flat_map, AllByRecursion}
 use Rattle.std.specs.Str.{is_utf8, chars}
 use Rattle.ballot_law.specs.declared.addresses.Addr.{Addr}
 use Rattle.ballot_law.specs.declared.addresses.RunId.{RunId}
+use Rattle.ballot_law.specs.declared.cards.Kept.{Kept}
 use Rattle.ballot_law.specs.declared.cards.TheConstants.{MAX_EPOCH}
 use Rattle.ballot_law.specs.declared.commands.Command.{Command}
 use Rattle.ballot_law.specs.declared.commands.Command.TheVariants.{MyId, IsMasterDownByAddr, Subscribe}
@@ -18,7 +19,7 @@ use Rattle.ballot_law.specs.declared.messages.NodeName.{NodeName}
 use Rattle.ballot_law.specs.declared.messages.NodeName.TheVariants.{SentinelAt, PortAt}
 use Rattle.ballot_law.specs.declared.records.Election.{Election}
 use Rattle.ballot_law.specs.declared.steps.KeptText.{KeptText}
-use Rattle.ballot_law.specs.declared.steps.KeptText.TheVariants.{Old}
+use Rattle.ballot_law.specs.declared.steps.KeptText.TheVariants.{New}
 use Rattle.ballot_law.specs.Hellos.{IsAddr, IsRunId}
 use Rattle.ballot_law.specs.Rosters.{id_of}
 use Rattle.ballot_law.specs.Words.{hex, id_text, run_id}
@@ -54,21 +55,20 @@ use Rattle.sentinel_cell.specs.Histories.{World, IsLegal, AreSteps}
 use Rattle.sentinel_core.specs.Serving.Serving.{output_bytes}
 use Rattle.sentinel_rules.specs.States.{is_unrefused}
 use Rattle.sentinel_rules.specs.Ticks.{hands_over}
-use Rattle.sentinel_rules.specs.Worked.{local, ask_at}
-use Rattle.process_laws.specs.Actions.{Action, Opened, Took, Told, IsOpened, actions_after, all_elected, at_first}
+use Rattle.sentinel_rules.specs.Worked.{id_a, local, ask_at}
+use Rattle.process_laws.specs.Actions.{Action, Opened, Took, Told, IsOpened, actions_after, all_elected, all_said, at_first}
 use Rattle.process_laws.specs.Connections.{IsAlone}
-use Rattle.process_laws.specs.Connected.{history_of, AreLives, actions_of, MayTake, LinkWord, Says, IsAnsweredRow, HasAnswered, IsToldBy, IsCarried, IsHeardFrom, AreConnected, bytes_of}
+use Rattle.process_laws.specs.Connected.{history_of, file_of, IsLife, AreLives, actions_of, MayTake, LinkWord, Says, ServedOn, IsAnsweredRow, HasAnswered, IsToldBy, IsCarried, IsHeardFrom, AreConnected, bytes_of}
 use Rattle.process_laws.specs.OwnActions.{own_of}
-use Rattle.process_laws.specs.SharedConnections.{IsNear, ServedBeside}
-use Rattle.process_laws.specs.TwoConnected.{order, life_of, ConnectedProcessesHappen}
-use Rattle.process_laws.specs.TwoProcesses.{roster, begin, first_file, entry_of, sends}
+use Rattle.process_laws.specs.TwoConnected.{order, life_of, next_life, lives, ConnectedProcessesHappen}
+use Rattle.process_laws.specs.TwoProcesses.{roster, begin, first_file, left_file, hello_with, new_card, entry_of, sends, actions}
 use Rattle.process_laws.proofs.Differing.{same_differs}
 use Rattle.process_laws.proofs.Merging.{opened_good}
 use Rattle.process_laws.proofs.Openings.{id_value, id_value_whole, told_whole}
 use Rattle.process_laws.proofs.Pieces.{nothing_between}
 use Rattle.process_laws.proofs.Reading.{vote_again}
 use Rattle.process_laws.proofs.TwoFiles.{distinct_ids, is_first}
-use Rattle.process_laws.proofs.TwoProcesses.{starts_here, opens_here}
+use Rattle.process_laws.proofs.TwoProcesses.{starts_here, opens_here, is_left, hello_published}
 
 -- what is unfolded to compute texts and failovers that are written out
 unfoldable on_literals : ⊤
@@ -94,21 +94,81 @@ opens_first = opens_here 0 (id_of roster 0) first_file 0 (lit< tt) refl (is_firs
 opens_other : IsOpened roster 1 first_file 0 other_world
 opens_other = opens_here 1 (id_of roster 1) first_file 0 (lit< tt) refl (is_first 6380 (lit< tt) (lit≤ tt) 1 (id_of roster 1))
 
+opens_next : IsOpened roster 0 left_file 1000 next_life.opened
+opens_next = opens_here 0 id_a left_file 1000 (lit< tt) refl is_left
+
+-- what the refused store left
+file_left : left_file ≡ file_of (life_of 0)
+unfolding on_literals
+file_left = refl
+
 first_steps : AreSteps first_world (history_of (life_of 0).deeds)
 unfolding on_literals
 first_steps = (
   (refl, refl, lit≤ tt, tt),
-  ((refl, refl, lit≤ tt, tt), ((refl, refl, lit≤ tt, tt), ((refl, refl, lit≤ tt, tt), ((refl, refl, lit≤ tt, tt), ((refl, refl, lit≤ tt, tt), ((refl, refl, lit≤ tt, tt), tt)))))),
+  (
+    (refl, refl, lit≤ tt, tt),
+    (
+      (refl, refl, lit≤ tt, tt),
+      (
+        (refl, refl, lit≤ tt, tt),
+        (
+          (refl, refl, lit≤ tt, tt),
+          (
+            (refl, refl, lit≤ tt, tt),
+            (
+              (refl, refl, lit≤ tt, tt),
+              (
+                (refl, refl, lit≤ tt, tt),
+                ((refl, refl, lit≤ tt, tt), ((refl, refl, lit≤ tt, tt), ((refl, refl, lit≤ tt, tt), ((refl, refl, lit< tt, lit≤ tt, refl), tt)))),
+              ),
+            ),
+          ),
+        ),
+      ),
+    ),
+  ),
 )
+
+next_steps : AreSteps next_life.opened (history_of next_life.deeds)
+unfolding on_literals
+next_steps = ((refl, refl, lit≤ tt, tt), tt)
 
 other_steps : AreSteps other_world (history_of (life_of 1).deeds)
 unfolding on_literals
-other_steps = ((refl, refl, lit≤ tt, tt), ((refl, refl, lit≤ tt, lit≤ tt), ((refl, refl, lit≤ tt, lit≤ tt), tt)))
+other_steps = (
+  (refl, refl, lit≤ tt, tt),
+  ((refl, refl, lit≤ tt, lit≤ tt), ((refl, refl, lit≤ tt, lit≤ tt), ((refl, refl, lit≤ tt, tt), ((refl, refl, lit≤ tt, tt), tt)))),
+)
 
-lived : (i : ℕ) → i < 2 → AreLives roster i (at_first begin i).file (life_of i ∷ [])
-lived = below_two (λ i. AreLives roster i (at_first begin i).file (life_of i ∷ []))
-    (record { opens = opens_first; legal = (opened_good roster 0 first_file 0 first_world opens_first, first_steps); asked = (tt, (tt, (tt, (tt, (tt, (tt, (tt, tt))))))) }, tt)
-    (record { opens = opens_other; legal = (opened_good roster 1 first_file 0 other_world opens_other, other_steps); asked = (tt, (tt, (tt, tt))) }, tt)
+first_life : IsLife roster 0 first_file (life_of 0)
+first_life =
+    record {
+      opens = opens_first;
+      legal = (opened_good roster 0 first_file 0 first_world opens_first, first_steps);
+      asked = (tt, (tt, (tt, (tt, (tt, (tt, (tt, (tt, (tt, (tt, (lit< tt, (tt, (tt, tt)))))))))))));
+    }
+
+life_after : IsLife roster 0 left_file next_life
+life_after =
+    record {
+      opens = opens_next;
+      legal = (opened_good roster 0 left_file 1000 next_life.opened opens_next, next_steps);
+      asked = (tt, (lit< tt, tt));
+    }
+
+other_life : IsLife roster 1 first_file (life_of 1)
+other_life =
+    record {
+      opens = opens_other;
+      legal = (opened_good roster 1 first_file 0 other_world opens_other, other_steps);
+      asked = (tt, (tt, (tt, (lit< tt, (tt, (tt, (lit< tt, tt)))))));
+    }
+
+lived : (i : ℕ) → i < 2 → AreLives roster i (at_first begin i).file (lives i)
+lived = below_two (λ i. AreLives roster i (at_first begin i).file (lives i))
+    (first_life, (subst (λ (k : Kept). IsLife roster 0 k next_life) file_left life_after, tt))
+    (other_life, tt)
 
 -- ---- the other end of the connection
 
@@ -164,13 +224,6 @@ view_of front =
 
 abbrev guest_at : List Entry → Guest
 guest_at front = guest (party (view_of front) None) unsubscribed [] client
-
-near : (g : Guest) (value : Frame) → g.asker.current ≡ None → IsNear g value
-near g value none = ap (λ (c : Option ℕ). heard_as c (command_of value)) none ∙ as_it_is (command_of value)
-  where
-    as_it_is : (read : Result Command CommandFault) → heard_as None read ≡ read
-    as_it_is (Ok command) = ap Ok (hears_all command)
-    as_it_is (Err why) = refl
 
 -- no entry has another number than 0
 given_all : (front : List Entry) → AllByRecursion (λ (e : Entry). e.number ≡ 0) front → (n : ℕ) → 1 ≤ n → calls_by n front ≡ []
@@ -287,7 +340,7 @@ abbrev all_seen : List Entry
 all_seen = named_then ∷ answered_then ∷ voted_then ∷ []
 
 legal : IsLegal other_world all_seen
-legal = (opened_good roster 1 first_file 0 other_world opens_other, other_steps)
+legal = (opened_good roster 1 first_file 0 other_world opens_other, (other_steps.0, (other_steps.1.0, (other_steps.1.1.0, tt))))
 
 no_subscribing : (addr : Addr) (epoch : ℕ) (candidate : Option RunId) → IsMasterDownByAddr addr epoch candidate ≢ Subscribe
 no_subscribing addr epoch candidate e = let no : ⊥ = cc in no
@@ -314,12 +367,12 @@ tells_next =
     (turn 710 command two_seen voted_then (spelling next_answer) legal (refl, (refl, (refl, tt))) refl refl refl (sym (append-nil (spelling next_answer))), refl)
 
 abbrev Served : (front : List Entry) → (values : List Frame) → (bytes : List ℕ) → (last : List Entry) → Type 0
-Served front values bytes last = ServedBeside other_world (guest_at front) values bytes (guest_at last)
+Served front values bytes last = ServedOn other_world (guest_at front) values bytes (guest_at last)
 
 abbrev serves_id : (values : List Frame) (rest : List ℕ) (last : List Entry) → Served one_seen values rest last
     → Served [] (id_value ∷ values) (spelling (id_frame id) ++ rest) last
 serves_id values rest last served =
-    (605, guest_at [], guest_at one_seen, spelling (id_frame id), rest, refl, nothing_between (guest_at []), near (guest_at []) id_value refl, tells_id, served)
+    (605, guest_at [], guest_at one_seen, spelling (id_frame id), rest, refl, nothing_between (guest_at []), tells_id, served)
 
 abbrev serves_first : (values : List Frame) (rest : List ℕ) (last : List Entry) → Served two_seen values rest last
     → Served one_seen (first_question ∷ values) (spelling first_answer ++ rest) last
@@ -331,7 +384,6 @@ serves_first values rest last served = (
   rest,
   refl,
   nothing_between (guest_at one_seen),
-  near (guest_at one_seen) first_question refl,
   tells_first,
   served,
 )
@@ -345,7 +397,6 @@ serves_next = (
   [],
   refl,
   nothing_between (guest_at two_seen),
-  near (guest_at two_seen) next_question refl,
   tells_next,
   (refl, refl),
 )
@@ -356,13 +407,13 @@ counted : Frame → ℕ
 counted (items fs) = count fs
 counted f = 0
 
-no_row_id : (bytes : List ℕ) → IsAnsweredRow id_value bytes
+no_row_id : (g : Guest) (bytes : List ℕ) → IsAnsweredRow g id_value bytes
 unfolding counted
-no_row_id bytes name e = let same : 2 ≡ 3 = ap counted e in absurd (omega (arith, same))
+no_row_id g bytes name e = let same : 2 ≡ 3 = ap counted e in absurd (omega (arith, same))
 
-no_row : (epoch : ℕ) (candidate : Option RunId) (bytes : List ℕ) → IsAnsweredRow (ask_frame (local 6379) epoch candidate) bytes
+no_row : (epoch : ℕ) (candidate : Option RunId) (g : Guest) (bytes : List ℕ) → IsAnsweredRow g (ask_frame (local 6379) epoch candidate) bytes
 unfolding counted
-no_row epoch candidate bytes name e = let same : 6 ≡ 3 = ap counted e in absurd (omega (arith, same))
+no_row epoch candidate g bytes name e = let same : 6 ≡ 3 = ap counted e in absurd (omega (arith, same))
 
 -- ---- what the link heard
 
@@ -381,14 +432,15 @@ asked_told leader epoch is most = ap (answered (SentinelAt 1) 0 (local 6379)) (v
 abbrev first_before : List Action
 first_before = take 5 order
 
-abbrev next_before : List Action
-next_before = take 10 order
-
 abbrev first_event : Event
 first_event = Answered (SentinelAt 1) 0 (local 6379) true None 0
 
 abbrev next_event : Event
 next_event = Answered (SentinelAt 1) 0 (local 6379) true (Some (id_of roster 0)) 1
+
+-- by then the other one had answered so
+abbrev Is : (before : List Action) → Entry → Type 0
+Is before entry = Contains before (Took 1 entry (SentinelAt 0) New)
 
 abbrev Has : (before : List Action) → (front : List Entry) → Type 0
 Has before front = HasAnswered before 1 0 front
@@ -430,11 +482,11 @@ first_carried =
       h = guest_at two_seen;
       served = serves_id (first_question ∷ []) (spelling first_answer ++ []) two_seen (serves_first [] [] two_seen (refl, refl));
       turns = (
-        inr (let has : Has first_before one_seen = record { earlier = []; entry = named_then; left = Old; front_is = refl; took = (2, lit< tt, refl); ids = (tt, tt) } in has),
-        no_row_id (spelling (id_frame id)),
+        inr (let has : Has first_before one_seen = record { earlier = []; entry = named_then; left = New; front_is = refl; took = (2, lit< tt, refl); ids = (tt, tt) } in has),
+        no_row_id (guest_at []) (spelling (id_frame id)),
         (
-          inr (let has : Has first_before two_seen = record { earlier = one_seen; entry = answered_then; left = Old; front_is = refl; took = (4, lit< tt, refl); ids = (tt, tt) } in has),
-          no_row 0 None (spelling first_answer),
+          inr (let has : Has first_before two_seen = record { earlier = one_seen; entry = answered_then; left = New; front_is = refl; took = (4, lit< tt, refl); ids = (tt, tt) } in has),
+          no_row 0 None (guest_at one_seen) (spelling first_answer),
           tt,
         ),
       );
@@ -465,84 +517,85 @@ first_heard =
     } in
     record { within = lit< tt; asked = _; came = _; told = told; start = other_world; carried = first_carried }
 
-next_carried : IsCarried roster next_before 0 id other_world (asks.Identity id ∷ asks.Ask 0 (local 6379) ∷ asks.Ask 0 (local 6379) ∷ [])
-    (flat_map spelling (id_frame id ∷ first_answer ∷ next_answer ∷ []))
-next_carried =
-    record {
-      login = Without;
-      words = both_words;
-      asked_is = refl;
-      askable = ((is_address, lit≤ tt, tt), ((is_address, lit≤ tt, voted), tt));
-      alone = (alone, (alone, tt));
-      roster_is = same_differs roster roster refl;
-      g = guest_at [];
-      known = refl;
-      quiet = refl;
-      silent = refl;
-      greeting = [];
-      greets = refl;
-      got = out both_words;
-      not_yet_got = [];
-      sent = sym (append-nil (out both_words));
-      values = id_value ∷ first_question ∷ next_question ∷ [];
-      unread = [];
-      parts = (
-        sym (append-nil (out both_words)),
-        (id_value_whole, (ask_is_frame (local 6379) 0 None is_address (lit≤ tt) tt, (ask_is_frame (local 6379) 1 (Some (id_of roster 0)) is_address (lit≤ tt) voted, tt))),
-      );
-      bytes = flat_map spelling (id_frame id ∷ first_answer ∷ next_answer ∷ []);
-      h = guest_at all_seen;
-      served = serves_id (first_question ∷ next_question ∷ []) (spelling first_answer ++ (spelling next_answer ++ [])) all_seen
-          (serves_first (next_question ∷ []) (spelling next_answer ++ []) all_seen serves_next);
-      turns = (
-        inr (let has : Has next_before one_seen = record { earlier = []; entry = named_then; left = Old; front_is = refl; took = (2, lit< tt, refl); ids = (tt, tt) } in has),
-        no_row_id (spelling (id_frame id)),
-        (
-          inr (let has : Has next_before two_seen = record { earlier = one_seen; entry = answered_then; left = Old; front_is = refl; took = (4, lit< tt, refl); ids = (tt, tt) } in has),
-          no_row 0 None (spelling first_answer),
+module _ (before : List Action) (first : Is before named_then) (next : Is before answered_then) (last : Is before voted_then) where
+  next_carried : IsCarried roster before 0 id other_world (asks.Identity id ∷ asks.Ask 0 (local 6379) ∷ asks.Ask 0 (local 6379) ∷ [])
+      (flat_map spelling (id_frame id ∷ first_answer ∷ next_answer ∷ []))
+  next_carried =
+      record {
+        login = Without;
+        words = both_words;
+        asked_is = refl;
+        askable = ((is_address, lit≤ tt, tt), ((is_address, lit≤ tt, voted), tt));
+        alone = (alone, (alone, tt));
+        roster_is = same_differs roster roster refl;
+        g = guest_at [];
+        known = refl;
+        quiet = refl;
+        silent = refl;
+        greeting = [];
+        greets = refl;
+        got = out both_words;
+        not_yet_got = [];
+        sent = sym (append-nil (out both_words));
+        values = id_value ∷ first_question ∷ next_question ∷ [];
+        unread = [];
+        parts = (
+          sym (append-nil (out both_words)),
+          (id_value_whole, (ask_is_frame (local 6379) 0 None is_address (lit≤ tt) tt, (ask_is_frame (local 6379) 1 (Some (id_of roster 0)) is_address (lit≤ tt) voted, tt))),
+        );
+        bytes = flat_map spelling (id_frame id ∷ first_answer ∷ next_answer ∷ []);
+        h = guest_at all_seen;
+        served = serves_id (first_question ∷ next_question ∷ []) (spelling first_answer ++ (spelling next_answer ++ [])) all_seen
+            (serves_first (next_question ∷ []) (spelling next_answer ++ []) all_seen serves_next);
+        turns = (
+          inr (let has : Has before one_seen = record { earlier = []; entry = named_then; left = New; front_is = refl; took = first; ids = (tt, tt) } in has),
+          no_row_id (guest_at []) (spelling (id_frame id)),
           (
-            inr (let has : Has next_before all_seen = record { earlier = two_seen; entry = voted_then; left = Old; front_is = refl; took = (9, lit< tt, refl); ids = (voted, tt) } in has),
-            no_row 1 (Some (id_of roster 0)) (spelling next_answer),
-            tt,
+            inr (let has : Has before two_seen = record { earlier = one_seen; entry = answered_then; left = New; front_is = refl; took = next; ids = (tt, tt) } in has),
+            no_row 0 None (guest_at one_seen) (spelling first_answer),
+            (
+              inr (let has : Has before all_seen = record { earlier = two_seen; entry = voted_then; left = New; front_is = refl; took = last; ids = (voted, tt) } in has),
+              no_row 1 (Some (id_of roster 0)) (guest_at two_seen) (spelling next_answer),
+              tt,
+            ),
           ),
-        ),
-      );
-      not_yet_come = [];
-      put_out = sym (append-nil (flat_map spelling (id_frame id ∷ first_answer ∷ next_answer ∷ [])));
-    }
+        );
+        not_yet_come = [];
+        put_out = sym (append-nil (flat_map spelling (id_frame id ∷ first_answer ∷ next_answer ∷ [])));
+      }
 
-next_heard : IsHeardFrom roster next_before 0 1 next_event
-next_heard =
-    let told : IsToldBy (SentinelAt 1) (asks.Identity id ∷ asks.Ask 0 (local 6379) ∷ asks.Ask 0 (local 6379) ∷ [])
-    (flat_map spelling (id_frame id ∷ first_answer ∷ next_answer ∷ [])) next_event =
-    record {
-      values = id_frame id ∷ first_answer ∷ next_answer ∷ [];
-      rest = [];
-      parts = (sym (append-nil (flat_map spelling (id_frame id ∷ first_answer ∷ next_answer ∷ []))), (id_whole, (inl first_whole, (inl next_whole, tt))));
-      before = first_event ∷ [];
-      after = [];
-      left = [];
-      tells = (
-        asks.Identity id,
-        asks.Ask 0 (local 6379) ∷ asks.Ask 0 (local 6379) ∷ [],
-        None,
-        first_event ∷ next_event ∷ [],
-        refl,
-        id_told,
-        refl,
-        (
-          asks.Ask 0 (local 6379),
-          asks.Ask 0 (local 6379) ∷ [],
-          Some first_event,
-          next_event ∷ [],
+  next_heard : IsHeardFrom roster before 0 1 next_event
+  next_heard =
+      let told : IsToldBy (SentinelAt 1) (asks.Identity id ∷ asks.Ask 0 (local 6379) ∷ asks.Ask 0 (local 6379) ∷ [])
+      (flat_map spelling (id_frame id ∷ first_answer ∷ next_answer ∷ [])) next_event =
+      record {
+        values = id_frame id ∷ first_answer ∷ next_answer ∷ [];
+        rest = [];
+        parts = (sym (append-nil (flat_map spelling (id_frame id ∷ first_answer ∷ next_answer ∷ []))), (id_whole, (inl first_whole, (inl next_whole, tt))));
+        before = first_event ∷ [];
+        after = [];
+        left = [];
+        tells = (
+          asks.Identity id,
+          asks.Ask 0 (local 6379) ∷ asks.Ask 0 (local 6379) ∷ [],
+          None,
+          first_event ∷ next_event ∷ [],
           refl,
-          asked_told None 0 tt (lit≤ tt),
+          id_told,
           refl,
-          (asks.Ask 0 (local 6379), [], Some next_event, [], refl, asked_told (Some (id_of roster 0)) 1 voted (lit≤ tt), refl, (refl, refl)),
-        ),
-      );
-    } in
-    record { within = lit< tt; asked = _; came = _; told = told; start = other_world; carried = next_carried }
+          (
+            asks.Ask 0 (local 6379),
+            asks.Ask 0 (local 6379) ∷ [],
+            Some first_event,
+            next_event ∷ [],
+            refl,
+            asked_told None 0 tt (lit≤ tt),
+            refl,
+            (asks.Ask 0 (local 6379), [], Some next_event, [], refl, asked_told (Some (id_of roster 0)) 1 voted (lit≤ tt), refl, (refl, refl)),
+          ),
+        );
+      } in
+      record { within = lit< tt; asked = _; came = _; told = told; start = other_world; carried = next_carried }
 
 -- ---- all of it, in its order
 
@@ -568,7 +621,43 @@ may_at before ds may i entry asker left (d ∷ mid) later cut =
     let on = (subst (MayAll before) cut may).1 in
     subst (λ (l : List Action). May l i entry.input.event) (append_assoc before (d ∷ []) mid) (may_at (before ++ d ∷ []) rest on i entry asker left mid later refl)
 
+-- from the promotion on
+may_on : MayAll (take 12 order) (drop 12 order)
+unfolding on_literals
+may_on = (
+  inl (inl tt),
+  (
+    inl (inl tt),
+    (
+      inl (inl tt),
+      (
+        tt,
+        (
+          tt,
+          (
+            inl (inl tt),
+            (
+              inl (inr refl),
+              (
+                inr ∣ inl (hello_published, hello_with 1 new_card, 0, (13, lit< tt, refl), refl, lit< tt, refl, refl) ∣₁,
+                (
+                  tt,
+                  (
+                    inl (inl tt),
+                    (tt, (inr ∣ inr (1, next_heard (take 23 order) (2, lit< tt, refl) (4, lit< tt, refl) (9, lit< tt, refl)) ∣₁, (tt, tt))),
+                  ),
+                ),
+              ),
+            ),
+          ),
+        ),
+      ),
+    ),
+  ),
+)
+
 may_all : MayAll [] order
+unfolding on_literals
 may_all = (
   tt,
   (
@@ -580,10 +669,19 @@ may_all = (
         (
           inl (inl tt),
           (
-            inr (inr (1, first_heard)),
+            inr ∣ inr (1, first_heard) ∣₁,
             (
               inl (inl tt),
-              (inl (inl tt), (inl (inl tt), (inl (inl tt), (inr (inr (1, next_heard)), (inl (inl tt), tt))))),
+              (
+                inl (inl tt),
+                (
+                  inl (inl tt),
+                  (
+                    inl (inl tt),
+                    (inr ∣ inr (1, next_heard (take 10 order) (2, lit< tt, refl) (4, lit< tt, refl) (9, lit< tt, refl)) ∣₁, (inl (inl tt), may_on)),
+                  ),
+                ),
+              ),
             ),
           ),
         ),
@@ -592,12 +690,12 @@ may_all = (
   ),
 )
 
-connected : AreConnected roster begin (λ place. life_of place ∷ []) order
+connected : AreConnected roster begin lives order
 connected =
     record {
       lived = lived;
-      own = below_two (λ i. own_of i order ≡ actions_of i (life_of i ∷ [])) refl refl;
-      no_others = (lit< tt, (lit< tt, (lit< tt, (lit< tt, (lit< tt, (lit< tt, (lit< tt, (lit< tt, (lit< tt, (lit< tt, (lit< tt, (lit< tt, tt))))))))))));
+      own = below_two (λ i. own_of i order ≡ actions_of i (lives i)) refl refl;
+      no_others = (lit< tt, (lit< tt, (lit< tt, (lit< tt, (lit< tt, (lit< tt, (lit< tt, (lit< tt, (lit< tt, (lit< tt, (lit< tt, (lit< tt, (lit< tt, (lit< tt, (lit< tt, (lit< tt, (lit< tt, (lit< tt, (lit< tt, (lit< tt, (lit< tt, (lit< tt, (lit< tt, (lit< tt, (lit< tt, tt)))))))))))))))))))))))));
       heard = λ i entry asker left before later cut. may_at [] order may_all i entry asker left before later cut;
     }
 
@@ -605,5 +703,9 @@ elected_one : all_elected (at_first begin) order ≡ (let e : Election = record 
 unfolding on_literals
 elected_one = refl
 
+said_alike : all_said roster (at_first begin) order ≡ all_said roster (at_first begin) actions
+unfolding on_literals
+said_alike = refl
+
 pub connected_processes_happen : ConnectedProcessesHappen
-connected_processes_happen = (distinct_ids (6379 ∷ 6380 ∷ []), starts_here, connected, elected_one)
+connected_processes_happen = (distinct_ids (6379 ∷ 6380 ∷ []), starts_here, connected, elected_one, said_alike)

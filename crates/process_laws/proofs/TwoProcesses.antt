@@ -59,7 +59,7 @@ pub opens_here : (place : ℕ) (id : RunId) (kept : Kept) (now : ℕ) → place 
     IsOpened roster place kept now (opened_by (plan_at place id kept) now)
 opens_here place id kept now low own is = opens_well 6380 (lit< tt) (lit≤ tt) roster (same_differs roster roster refl) place id kept now low own is
 
-is_left : IsKeptPart (plan_at 0 id_a left_file).conf left_file
+pub is_left : IsKeptPart (plan_at 0 id_a left_file).conf left_file
 is_left =
     record {
       current = lit≤ tt;

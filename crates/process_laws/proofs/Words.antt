@@ -131,9 +131,9 @@ pub row_replied : (start : World) (now : ℕ) (g h : Guest) (name bytes : List �
 row_replied start now g h name bytes known quiet silent tells = row_by g.asker.protocol start now g h name bytes refl known quiet silent tells
 
 -- by this a row's answer is one value
-abbrev pub RowIsOne : (Q : Frame → List ℕ → Type 0) → LinkWord → Type 0
+abbrev pub RowIsOne : (Q : Guest → Frame → List ℕ → Type 0) → LinkWord → Type 0
 RowIsOne Q (Says body) = Unit {0}
-RowIsOne Q (AsksRow name) = (bytes : List ℕ) → Q (row_frame name) bytes → IsOneValue bytes
+RowIsOne Q (AsksRow name) = (g : Guest) (bytes : List ℕ) → Q g (row_frame name) bytes → IsOneValue bytes
 
 -- ---- messages alone
 
@@ -149,6 +149,6 @@ pub said_askable : (questions : List Body) → AllByRecursion IsAskable question
 said_askable [] askable = tt
 said_askable (question ∷ questions) askable = (askable.0, said_askable questions askable.1)
 
-pub said_no_row : (Q : Frame → List ℕ → Type 0) (questions : List Body) → AllByRecursion (RowIsOne Q) (map Says questions)
+pub said_no_row : (Q : Guest → Frame → List ℕ → Type 0) (questions : List Body) → AllByRecursion (RowIsOne Q) (map Says questions)
 said_no_row Q [] = tt
 said_no_row Q (question ∷ questions) = (tt, said_no_row Q questions)

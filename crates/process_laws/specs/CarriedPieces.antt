@@ -4,7 +4,7 @@ use Rattle.std.specs.List.{flat_map, AllByRecursion}
 use Rattle.ballot_law.specs.declared.addresses.RunId.{RunId}
 use Rattle.ballot_law.specs.Rosters.{Roster}
 use Rattle.client_commands.specs.Courtesies.{is_stranger}
-use Rattle.courteous_sessions.specs.Visits.{Guest, ServesAll}
+use Rattle.courteous_sessions.specs.Visits.{Guest, IsAnswered, ServesAll}
 use Rattle.links.specs.declared.sessions.questions.Question.{Question}
 use Rattle.links.specs.declared.speaking.Login.{Login}
 use Rattle.links.specs.Speaking.{login_questions, id_bytes, id_questions}
@@ -17,22 +17,29 @@ use Rattle.process_laws.specs.Actions.{Action}
 use Rattle.process_laws.specs.Connected.{LinkWord, bytes_of, question_for, IsAskableWord, IsAboutOne, IsAnsweredRow, HasAnswered, IsCarried}
 use Rattle.process_laws.specs.Differing.{DifferInNodes}
 use Rattle.process_laws.specs.Openings.{IsGreeting}
-use Rattle.process_laws.specs.SharedConnections.{AnsweredInPieces}
+use Rattle.process_laws.specs.SharedConnections.{IsLater}
+
+-- AnsweredInPieces, where a question may be for a vote in an epoch that is too far above the one that the connection was told
+abbrev pub AnsweredOn : World → Guest → (held : List ℕ) → (pieces : List (List ℕ)) → (bytes : List ℕ) → Type 0
+AnsweredOn start g held [] bytes = bytes ≡ []
+AnsweredOn start g held (piece ∷ pieces) bytes =
+    (now : ℕ) × (next : Guest) × (middle : Guest) × (kept : List ℕ) × (first : List ℕ) × (rest : List ℕ) × (bytes ≡ first ++ rest) × IsLater g next
+    × IsAnswered start now (held ++ piece) next kept first middle × AnsweredOn start middle kept pieces rest
 
 -- EachTurn of the values of one piece
-abbrev pub EachTurnOf : (P : List Entry → Type 0) → (Q : Frame → List ℕ → Type 0) → (start : World) (now : ℕ) (g : Guest) (values : List Frame) (bytes : List ℕ) (h : Guest)
-    → ServesAll start now g values bytes h → Type 0
+abbrev pub EachTurnOf : (P : List Entry → Type 0) → (Q : Guest → Frame → List ℕ → Type 0) → (start : World) (now : ℕ) (g : Guest) (values : List Frame) (bytes : List ℕ)
+    (h : Guest) → ServesAll start now g values bytes h → Type 0
 EachTurnOf P Q start now g [] bytes h serves = Unit {0}
 EachTurnOf P Q start now g (value ∷ values) bytes h serves =
-    ((serves.0.party.view.front ≡ g.party.view.front) ⊎ P serves.0.party.view.front) × Q value serves.1 × EachTurnOf P Q start now serves.0 values serves.2 h serves.5
+    ((serves.0.party.view.front ≡ g.party.view.front) ⊎ P serves.0.party.view.front) × Q g value serves.1 × EachTurnOf P Q start now serves.0 values serves.2 h serves.5
 
 -- and of those of all pieces
-abbrev pub EachTurnInPieces : (P : List Entry → Type 0) → (Q : Frame → List ℕ → Type 0) → (start : World) (g : Guest) (held : List ℕ) (pieces : List (List ℕ))
-    (bytes : List ℕ) → AnsweredInPieces start g held pieces bytes → Type 0
+abbrev pub EachTurnInPieces : (P : List Entry → Type 0) → (Q : Guest → Frame → List ℕ → Type 0) → (start : World) (g : Guest) (held : List ℕ) (pieces : List (List ℕ))
+    (bytes : List ℕ) → AnsweredOn start g held pieces bytes → Type 0
 EachTurnInPieces P Q start g held [] bytes answered = Unit {0}
 EachTurnInPieces P Q start g held (piece ∷ pieces) bytes answered =
     EachTurnOf P Q start answered.0 answered.1 answered.8.values answered.4 answered.2 answered.8.answers
-    × EachTurnInPieces P Q start answered.2 answered.3 pieces answered.5 answered.10
+    × EachTurnInPieces P Q start answered.2 answered.3 pieces answered.5 answered.9
 
 -- IsCarried, where the port's session got a first part of the bytes after the login in pieces
 pub record IsCarriedInPieces (roster : Roster) (before : List Action) (i : ℕ) (id : RunId) (start : World) (asked : List Question) (came : List ℕ) : Type 0 where
@@ -52,7 +59,7 @@ pub record IsCarriedInPieces (roster : Roster) (before : List Action) (i : ℕ) 
   pub not_yet_got : List ℕ
   pub sent : id_bytes (Some id) ++ flat_map bytes_of words ≡ flat_map (λ (piece : List ℕ). piece) pieces ++ not_yet_got
   pub bytes : List ℕ
-  pub answered : AnsweredInPieces start g [] pieces bytes
+  pub answered : AnsweredOn start g [] pieces bytes
   pub turns : EachTurnInPieces (HasAnswered before start.plan.place i) IsAnsweredRow start g [] pieces bytes answered
   pub not_yet_come : List ℕ
   pub put_out : flat_map spelling greeting ++ bytes ≡ came ++ not_yet_come

@@ -15,7 +15,7 @@ use Rattle.ballot_law.specs.Names.{IsName}
 use Rattle.ballot_law.specs.Rosters.{Roster, size, id_of, HasDistinctIds}
 use Rattle.ballot_law.specs.Worlds.{World as Group, IsFree}
 use Rattle.client_commands.specs.Courtesies.{is_stranger}
-use Rattle.courteous_sessions.specs.Visits.{Guest}
+use Rattle.courteous_sessions.specs.Visits.{Guest, Tells as TellsClient}
 use Rattle.links.specs.declared.sessions.questions.Question.{Question}
 use Rattle.links.specs.declared.sessions.questions.Question.TheVariants.{Order}
 use Rattle.links.specs.declared.speaking.Login.{Login}
@@ -37,7 +37,7 @@ use Rattle.process_laws.specs.Differing.{DifferInNodes}
 use Rattle.process_laws.specs.HeardAnswers.{IsOfOneMaster, TellsOfRunId}
 use Rattle.process_laws.specs.Openings.{IsGreeting}
 use Rattle.process_laws.specs.OwnActions.{place_of, own_of}
-use Rattle.process_laws.specs.SharedConnections.{ServedBeside}
+use Rattle.process_laws.specs.SharedConnections.{IsLater}
 
 -- ---- what one process did
 
@@ -122,16 +122,25 @@ IsAboutOne plan (AsksRow name) = Unit {0}
 abbrev pub IsOneValue : List ℕ → Type 0
 IsOneValue bytes = (answer : Frame) × (bytes ≡ spelling answer) × IsPlain answer
 
+-- The answers to these values, in their order, as in ServedBeside; but the port may have been asked for a vote in an epoch that is too far above the one that the
+-- connection was told, and have heard that as one in epoch 0
+abbrev pub ServedOn : World → Guest → List Frame → List ℕ → Guest → Type 0
+ServedOn start g [] bytes h = (bytes ≡ []) × (h ≡ g)
+ServedOn start g (value ∷ values) bytes h =
+    (now : ℕ) × (next : Guest) × (middle : Guest) × (first : List ℕ) × (rest : List ℕ) × (bytes ≡ first ++ rest)
+    × IsLater g next × TellsClient start now next value first middle × ServedOn start middle values rest h
+
 -- where it is the question for a row, it is answered by one value
-abbrev pub IsAnsweredRow : (value : Frame) → (bytes : List ℕ) → Type 0
-IsAnsweredRow value bytes = (name : List ℕ) → value ≡ row_frame name → IsOneValue bytes
+abbrev pub IsAnsweredRow : Guest → (value : Frame) → (bytes : List ℕ) → Type 0
+IsAnsweredRow g value bytes = (name : List ℕ) → value ≡ row_frame name → IsOneValue bytes
 
 -- of each value that was served Q holds, with its answer, and where it took a turn, P of all that the seat had seen after it
-abbrev pub EachTurn : (P : List Entry → Type 0) → (Q : Frame → List ℕ → Type 0) → (start : World) (g : Guest) (values : List Frame) (bytes : List ℕ) (h : Guest)
-    → ServedBeside start g values bytes h → Type 0
+abbrev pub EachTurn : (P : List Entry → Type 0) → (Q : Guest → Frame → List ℕ → Type 0) → (start : World) (g : Guest) (values : List Frame) (bytes : List ℕ) (h : Guest)
+    → ServedOn start g values bytes h → Type 0
 EachTurn P Q start g [] bytes h served = Unit {0}
 EachTurn P Q start g (value ∷ values) bytes h served =
-    ((served.2.party.view.front ≡ served.1.party.view.front) ⊎ P served.2.party.view.front) × Q value served.3 × EachTurn P Q start served.2 values served.4 h served.9
+    ((served.2.party.view.front ≡ served.1.party.view.front) ⊎ P served.2.party.view.front)
+    × Q served.1 value served.3 × EachTurn P Q start served.2 values served.4 h served.8
 
 -- each run id that a message tells of is one, as every value of its type is
 abbrev pub TellsOfRunIds : Output → Type 0
@@ -147,9 +156,11 @@ pub record HasAnswered (before : List Action) (place i : ℕ) (front : List Entr
   pub took : Contains before (Took place entry (SentinelAt i) left)
   pub ids : AllByRecursion TellsOfRunIds entry.outputs
 
--- TCP, and the other end: what came on a connection of Sentinel i, for what was asked on it, is a first part of what one connection of some Sentinel's port put out for a first
--- part of what went out. The process of that began in this world; what it answered there it took before, when Sentinel i asked. The link logged in and asked whether it
--- has this run id before all words. The login was answered by one value, after which no password is owed
+-- What came on a connection of Sentinel i, for what was asked on it.
+-- TCP: it is a first part of what one connection of a port put out for a first part of what went out.
+-- The other end: a process that began in this world, of a Sentinel whose roster differs from the group's in data nodes alone. Each turn that it took for this connection is one
+-- that it took before, asked by Sentinel i. A login was answered by one value, after which no password is owed, and so is each question for a row.
+-- The link logged in, and asked whether the other end has this run id, before all words. Each question is about a master that alone has the address, at the other end
 pub record IsCarried (roster : Roster) (before : List Action) (i : ℕ) (id : RunId) (start : World) (asked : List Question) (came : List ℕ) : Type 0 where
   pub login : Login
   pub words : List LinkWord
@@ -171,7 +182,7 @@ pub record IsCarried (roster : Roster) (before : List Action) (i : ℕ) (id : Ru
   pub parts : Parts got values unread
   pub bytes : List ℕ
   pub h : Guest
-  pub served : ServedBeside start g values bytes h
+  pub served : ServedOn start g values bytes h
   pub turns : EachTurn (HasAnswered before start.plan.place i) IsAnsweredRow start g values bytes h served
   pub not_yet_come : List ℕ
   pub put_out : flat_map spelling greeting ++ bytes ≡ came ++ not_yet_come
@@ -195,11 +206,11 @@ pub record IsHeardFrom (roster : Roster) (before : List Action) (i k : ℕ) (eve
   pub start : World
   pub carried : IsCarried roster before i (id_of roster k) start asked came
 
--- What the Sentinel with this plan may take after these actions: what no other Sentinel brings, that of which it takes no notice, a hello that a Sentinel published before,
--- or what came over a connection
+-- What the Sentinel with this plan may take after these actions: what no other Sentinel brings, and that of which it takes no notice, from whomever it came; or a hello that a
+-- Sentinel published before, or what came over a connection, whichever that was
 abbrev pub MayTake : Roster → Plan → (stores : ℕ) → (before : List Action) → (i : ℕ) → Event → Type 0
 MayTake roster plan stores before i event =
-    (IsFree event ⊎ (is_noticed plan event ≡ false)) ⊎ (IsPublished stores (all_sent before) event ⊎ ((k : ℕ) × IsHeardFrom roster before i k event))
+    (IsFree event ⊎ (is_noticed plan event ≡ false)) ⊎ ∥ IsPublished stores (all_sent before) event ⊎ ((k : ℕ) × IsHeardFrom roster before i k event) ∥₁
 
 -- ---- the processes of a group
 
@@ -219,7 +230,7 @@ ConnectedProcessesAreSafe =
     HasDistinctIds roster →
     IsStart roster start →
     AreConnected roster start lives order →
-    AreActions roster (length start.stores) (at_first start) [] order
+    ∥ AreActions roster (length start.stores) (at_first start) [] order ∥₁
     × HasOneLeader (all_elected (at_first start) order)
     × HasOneAddress (all_said roster (at_first start) order)
     × ((before later : List Action) → order ≡ before ++ later

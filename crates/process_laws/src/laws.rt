@@ -56,20 +56,24 @@ pub fn law_own_actions_are_actions()
 {}
 
 /// Processes of a group are what these laws ask, and so safe, where each is given by what it did by itself: its file
-/// opened it, and its history is legal from there. What it took is free, is told by bytes that came on a connection
-/// for what it asked there, or is a hello that was published. TCP changes nothing inside a connection, and all that was
-/// done has one order, in which what is answered or published stands before what is heard of it.
+/// opened it, and its history is legal from there. What it took is free, or a hello that was published, or bytes tell
+/// it that came on a connection for what was asked there. TCP changes nothing inside a connection, whose other end is
+/// some process of the group. All that was done has one order, in which what is answered or published stands before
+/// what is heard of it. What else is asked of a connection stands in `IsCarried`.
 pub fn law_connected_processes_are_safe()
     ensures { ConnectedProcessesAreSafe }
 {}
 
-/// Two processes meet all that the law of connected processes asks: one is elected by the other one's vote, which it
-/// heard over a connection, byte for byte, on which it asked before who is there.
+/// Three processes of two Sentinels meet all that the law of connected processes asks: one is elected by the other
+/// one's vote, which it heard over a connection, byte for byte, on which it asked before who is there; its hello is
+/// adopted; a store of it is refused and leaves the new text, with which the third process begins. What was elected
+/// and said is what `law_actions_happen` has.
 pub fn law_connected_processes_happen()
     ensures { ConnectedProcessesHappen }
 {}
 
-/// What that law asks of a connection follows from what the port's session promises of each piece that it takes.
+/// What `law_connected_processes_are_safe` asks of a connection follows from what the port's session promises of each
+/// piece that it takes, at a reading of the clock of its own.
 pub fn law_pieces_are_carried()
     ensures { PiecesAreCarried }
 {}
