@@ -67,9 +67,11 @@ faulted_shown start v w input fault before shown none f = subst (λ (b : List Ou
 all_said : (said : Message → Type 0) (before outputs : List Output)
     → ((message : Message) (first rest : List Output) → before ++ outputs ≡ first ++ Send message ∷ rest → ∥ said message ∥₁) → AllByRecursion (IsSaid said) outputs
 all_said said before [] says = tt
-all_said said before (Send message ∷ outputs) says =
-    (says message before outputs refl, all_said said (before ++ Send message ∷ []) outputs
-        (λ m first rest is. says m first rest (sym (append_assoc before (Send message ∷ []) outputs) ∙ is)))
+all_said said before (Send message ∷ outputs) says = (
+  says message before outputs refl,
+  all_said said (before ++ Send message ∷ []) outputs
+      (λ m first rest is. says m first rest (sym (append_assoc before (Send message ∷ []) outputs) ∙ is)),
+)
 all_said said before (Tell note ∷ outputs) says =
     (tt, all_said said (before ++ Tell note ∷ []) outputs (λ m first rest is. says m first rest (sym (append_assoc before (Tell note ∷ []) outputs) ∙ is)))
 
