@@ -181,8 +181,9 @@ impl CourteousSession {
     }
 
     /// Takes the next piece as `received` does, but answers only so many values that may store: FLUSHCONFIG and
-    /// requests for votes. `Done` where all whole values are answered. `Waits` where the next whole one may store, after
-    /// as many: it is held with what comes after it, and a further call goes on with it, also one with an empty piece.
+    /// requests for votes. `Done` where all whole values are answered. `Waits` where the next whole one may store,
+    /// after as many: it is held with what comes after it, and a further call goes on with it, also one with an empty
+    /// piece.
     ///
     /// The faults are those of `received`, after which the session is ended as there.
     pub fn go_on<S: ConfStore, R: Wait>(
