@@ -190,7 +190,8 @@ module _ (roster : Roster) (plan : Plan) (stores : ℕ) (before : List Action) (
       ⊎_elim
       (λ (none : heard_there ≡ []). let low = (subst (λ (l : List Event). Contains l event) none among).1 in absurd (omega (arith, low)))
       (λ goes. heard_so before h.start i plan stores c.g.party.view c.words heard_there event c.askable c.alone (goes.2 (ap SentinelAt (met ids goes.0 goes.1))) among)
-      (links_deliver (Asked before h.start i) IsAnsweredRow IsKeptSo (λ g question bytes askable answered. heard_kept g.asker.current question askable) h.start (SentinelAt i) (SentinelAt k) c.g c.login (id_of roster k) c.words heard_there linked)
+      (links_deliver (Asked before h.start i) IsAnsweredRow IsKeptSo (λ g question bytes askable answered. heard_kept g.asker.current question askable) h.start (SentinelAt i)
+      (SentinelAt k) c.g c.login (id_of roster k) c.words heard_there linked)
 
 -- what may be taken is heard as the laws of processes ask it
 taken_is_heard : (roster : Roster) (plan : Plan) (stores : ℕ) (before : List Action) (i : ℕ) (event : Event) → HasDistinctIds roster

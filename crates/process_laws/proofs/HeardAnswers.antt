@@ -74,7 +74,8 @@ module _ (start : World) (i : ℕ) (v w : View) (left : KeptText) (plan : Plan) 
       let about : a.master ≡ m =
       answers_are_about_it world d.now m addr epoch candidate a.master a.down a.leader a.epoch good (subst (λ (p : Plan). IsAlone p m addr) (sym plan_is) alone) a.is_it in
       let fits : Fits question answer = subst (Fits question) (sym body_is) (about, subst TellsOfRunId body_is tells) in
-      let event_is : Answered voter a.master addr a.down a.leader a.epoch ≡ event = one_event (Answered voter a.master addr a.down a.leader a.epoch) event (ap (heard voter) (sym body_is) ∙ d.is_event fits) in
+      let event_is : Answered voter a.master addr a.down a.leader a.epoch ≡ event =
+      one_event (Answered voter a.master addr a.down a.leader a.epoch) event (ap (heard voter) (sym body_is) ∙ d.is_event fits) in
       let message : Message = record { sender = SentinelAt world.plan.place; target = SentinelAt i; body = answer } in
       let released : sent_by (Took start.plan.place d.entry (SentinelAt i) left) ≡ message ∷ [] = ap (λ (o : List Output). sent (map (output_to (SentinelAt i)) o)) d.released in
       let here : Contains messages message = sent_in message (subst (λ (l : List Message). Contains l message) (sym released) (0, lit< tt, refl)) in

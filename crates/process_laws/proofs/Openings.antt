@@ -195,7 +195,8 @@ module _ (P : List Entry → Type 0) (Q : Guest → Frame → List ℕ → Type 
         λ (named : voter ≡ SentinelAt start.plan.place).
             let tells_on = subst (λ (n : NodeName). Tells n false (map question_for words) rs events left) named rest.tells in
             later_all P R start asker g.party.view middle.party.view (later.more ++ reply.0.more) words events front
-            (delivered P Q R hears start asker words middle xs unread not_yet_got others h rs held not_yet_come events left rows askable known_then quiet_then reply.1 value_is.1 whole.1
+            (delivered P Q R hears start asker words middle xs unread not_yet_got others h rs held not_yet_come events left rows askable known_then quiet_then reply.1 value_is.1
+            whole.1
             served.8 turns.2 reply_is.1 read.1 tells_on),
       )
 
@@ -252,10 +253,12 @@ module _ (P : List Entry → Type 0) (Q : Guest → Frame → List ℕ → Type 
       greeted ∙ (c.put_out ∙ (ap (λ (t : List ℕ). t ++ c.not_yet_come) came ∙ by_first r rs c.held c.not_yet_come)) in
       let greeting_is = one_spelling answer r c.bytes ((flat_map spelling rs ++ c.held) ++ c.not_yet_come) plain (value_plain r read.0) whole in
       let rest = passed_over voter Order (Identity id ∷ map question_for words) r rs events c.left (order_tells voter) asks in
-      identified P Q R hears start asker voter id words g c.values c.unread c.not_yet_got c.bytes c.h rs c.held c.not_yet_come events c.left c.rows c.askable c.known c.quiet c.silent
+      identified P Q R hears start asker voter id words g c.values c.unread c.not_yet_got c.bytes c.h rs c.held c.not_yet_come events c.left c.rows c.askable c.known c.quiet
+      c.silent
       (c.sent ∙ ap (λ (t : List ℕ). t ++ c.not_yet_got) c.parts.0) c.parts.1 c.served c.turns greeting_is.1 read.1 rest.tells
 
-pub links_deliver : (P : List Entry → Type 0) (Q : Guest → Frame → List ℕ → Type 0) (R : Body → Body → Type 0) → HearsSo Q R → (start : World) (asker voter : NodeName) (g : Guest) (login : Login) (id : RunId)
+pub links_deliver : (P : List Entry → Type 0) (Q : Guest → Frame → List ℕ → Type 0) (R : Body → Body → Type 0) → HearsSo Q R →
+    (start : World) (asker voter : NodeName) (g : Guest) (login : Login) (id : RunId)
     (words : List LinkWord) (events : List Event) → IsLinked P Q start voter g login id words events → Goes P R start asker voter g id words events
 links_deliver P Q R hears start asker voter g Without id words events c = without_login P Q R hears start asker voter g Without id words events c c.greets c.tells
 links_deliver P Q R hears start asker voter g (Pass pass) id words events c =
@@ -300,7 +303,8 @@ nothing_heard start asker v questions events none = subst (λ (l : List Event). 
 
 pub new_connections_deliver : NewConnectionsDeliver
 new_connections_deliver start asker g login id questions events c =
-    let goes = links_deliver Whatever Nears IsItself hears_near start asker (SentinelAt start.plan.place) g login id (map Says questions) events (linked start g login id questions events c) in
+    let goes = links_deliver Whatever Nears IsItself hears_near start asker (SentinelAt start.plan.place) g login id (map Says questions) events
+    (linked start g login id questions events c) in
     ⊎_elim (λ (none : events ≡ []). (nothing_heard start asker g.party.view questions events none, inl none))
     (λ heard. (only_delivered Whatever start asker g.party.view questions events (heard.2 refl), inr heard.0))
     goes

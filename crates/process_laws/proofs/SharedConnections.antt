@@ -277,7 +277,8 @@ HearsSo Q R = (g : Guest) (question : Body) (bytes : List ℕ) → IsAskable que
 pub hears_near : HearsSo Nears IsItself
 hears_near = near_same
 
-pub delivered : (P : List Entry → Type 0) (Q : Guest → Frame → List ℕ → Type 0) (R : Body → Body → Type 0) → HearsSo Q R → (start : World) (asker : NodeName) (words : List LinkWord) (g : Guest) (values : List Frame) (unread not_yet_got bytes : List ℕ)
+pub delivered : (P : List Entry → Type 0) (Q : Guest → Frame → List ℕ → Type 0) (R : Body → Body → Type 0) → HearsSo Q R →
+    (start : World) (asker : NodeName) (words : List LinkWord) (g : Guest) (values : List Frame) (unread not_yet_got bytes : List ℕ)
     (h : Guest) (replies : List Frame) (held not_yet_come : List ℕ) (events : List Event) (left : List Question)
     → AllByRecursion (RowIsOne Q) words → AllByRecursion IsAskableWord words → is_stranger g.asker ≡ false → is_listening g.listening ≡ false → g.party.listens ≡ None
     → flat_map bytes_of words ≡ (flat_map spelling values ++ unread) ++ not_yet_got → AllByRecursion IsFrame values
@@ -285,13 +286,17 @@ pub delivered : (P : List Entry → Type 0) (Q : Guest → Frame → List ℕ �
     → bytes ≡ (flat_map spelling replies ++ held) ++ not_yet_come → AllByRecursion IsLinkValue replies
     → Tells (SentinelAt start.plan.place) false (map question_for words) replies events left
     → AreDeliveredSo P R start asker g.party.view words events
-delivered P Q R hears start asker words g values unread not_yet_got bytes h [] held not_yet_come events left rows askable known quiet silent sent whole served turns put_out read tells =
+delivered P Q R hears start asker words g values unread not_yet_got bytes h [] held not_yet_come events left rows askable known quiet silent sent whole served turns put_out read
+    tells =
     subst (λ (all : List Event). AreDeliveredSo P R start asker g.party.view words all) (sym tells.0) tt
-delivered P Q R hears start asker [] g values unread not_yet_got bytes h (r ∷ rs) held not_yet_come events left rows askable known quiet silent sent whole served turns put_out read tells =
+delivered P Q R hears start asker [] g values unread not_yet_got bytes h (r ∷ rs) held not_yet_come events left rows askable known quiet silent sent whole served turns put_out
+    read tells =
     absurd (let e = tells.4 in let no : ⊥ = cc in no)
-delivered P Q R hears start asker (a ∷ words) g [] unread not_yet_got bytes h (r ∷ rs) held not_yet_come events left rows askable known quiet silent sent whole served turns put_out read tells =
+delivered P Q R hears start asker (a ∷ words) g [] unread not_yet_got bytes h (r ∷ rs) held not_yet_come events left rows askable known quiet silent sent whole served turns
+    put_out read tells =
     absurd (spelled_some r ((flat_map spelling rs ++ held) ++ not_yet_come) (sym served.0 ∙ put_out ∙ by_first r rs held not_yet_come))
-delivered P Q R hears start asker (Says a ∷ words) g (x ∷ xs) unread not_yet_got bytes h (r ∷ rs) held not_yet_come events left rows askable known quiet silent sent whole served turns put_out read
+delivered P Q R hears start asker (Says a ∷ words) g (x ∷ xs) unread not_yet_got bytes h (r ∷ rs) held not_yet_come events left rows askable known quiet silent sent whole served
+    turns put_out read
     tells =
     let voter = SentinelAt start.plan.place in
     let s = question_spelled a askable.0 in
@@ -326,7 +331,8 @@ delivered P Q R hears start asker (Says a ∷ words) g (x ∷ xs) unread not_yet
     let known_then : is_stranger middle.asker ≡ false = ap (λ (x : Guest). is_stranger x.asker) same ∙ (later.known ∙ known) in
     let quiet_then : is_listening middle.listening ≡ false = ap (λ (x : Guest). is_listening x.listening) same ∙ (ap is_listening later.quiet ∙ quiet) in
     let silenced : middle.party.listens ≡ None = ap (λ (x : Guest). x.party.listens) same ∙ reply.1 in
-    let others_delivered = delivered P Q R hears start asker words middle xs unread not_yet_got others h rs held not_yet_come tells.3 left rows.1 askable.1 known_then quiet_then silenced
+    let others_delivered = delivered P Q R hears start asker words middle xs unread not_yet_got others h rs held not_yet_come tells.3 left rows.1 askable.1 known_then quiet_then
+    silenced
     question_is.1 whole.1 served.8 turns.2 reply_is.1 read.1
     (subst (λ (k : List Question). Tells voter false k rs tells.3 left) same_others tells.7) in
     let seen : middle.party.view ≡ alike.q.view = ap (λ (x : Guest). x.party.view) same in
@@ -338,7 +344,8 @@ delivered P Q R hears start asker (Says a ∷ words) g (x ∷ xs) unread not_yet
     let here = later_delivered start asker g.party.view next.party.view later.more asked event.0 alike.q.view later.front event.2 in
     subst (λ (list : List Event). AreDeliveredSo P R start asker g.party.view (Says a ∷ words) list) (sym all)
     (asked, hears next a first askable.0 here_so, alike.q.view, here, holds, after)
-delivered P Q R hears start asker (AsksRow name ∷ words) g (x ∷ xs) unread not_yet_got bytes h (r ∷ rs) held not_yet_come events left rows askable known quiet silent sent whole served
+delivered P Q R hears start asker (AsksRow name ∷ words) g (x ∷ xs) unread not_yet_got bytes h (r ∷ rs) held not_yet_come events left rows askable known quiet silent sent whole
+    served
     turns put_out read tells =
     let voter = SentinelAt start.plan.place in
     let value_is = one_spelling (row_frame name) x (flat_map bytes_of words) ((flat_map spelling xs ++ unread) ++ not_yet_got) (row_whole name askable.0).plain whole.0.plain

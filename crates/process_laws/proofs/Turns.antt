@@ -247,8 +247,10 @@ pub record Spelled (question : Body) : Type 0 where
 
 pub question_spelled : (question : Body) → IsAskable question → Spelled question
 question_spelled Ping askable =
-    let whole : IsFrame (words_frame (codes "PING" ∷ [])) = short_array (codes "PING" ∷ []) (omega arith, tt) (omega arith) in record { bytes = refl; whole = whole; plain = whole.plain }
-question_spelled (Ask m addr epoch candidate) askable = let whole = ask_is_frame addr epoch candidate askable.0 askable.1 askable.2 in record { bytes = refl; whole = whole; plain = whole.plain }
+    let whole : IsFrame (words_frame (codes "PING" ∷ [])) = short_array (codes "PING" ∷ []) (omega arith, tt) (omega arith) in
+    record { bytes = refl; whole = whole; plain = whole.plain }
+question_spelled (Ask m addr epoch candidate) askable = let whole = ask_is_frame addr epoch candidate askable.0 askable.1 askable.2 in
+    record { bytes = refl; whole = whole; plain = whole.plain }
 question_spelled (Answer n addr down leader voted) askable = absurd askable
 question_spelled (PingText is_error text) askable = absurd askable
 question_spelled InfoAsk askable = absurd askable

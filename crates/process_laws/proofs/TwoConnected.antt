@@ -59,7 +59,7 @@ use Rattle.sentinel_rules.specs.Worked.{id_a, local, ask_at}
 use Rattle.process_laws.specs.Actions.{Action, Opened, Took, Told, IsOpened, actions_after, all_elected, all_said, at_first}
 use Rattle.process_laws.specs.Connections.{IsAlone}
 use Rattle.process_laws.specs.Connected.{history_of, file_of, IsLife, AreLives, actions_of, MayTake, LinkWord, Says, ServedOn, IsAnsweredRow, HasAnswered, IsToldBy, IsCarried, IsHeardFrom, AreConnected, bytes_of}
-use Rattle.process_laws.specs.OwnActions.{own_of}
+use Rattle.process_laws.specs.OwnActions.{place_of, own_of}
 use Rattle.process_laws.specs.TwoConnected.{order, life_of, next_life, lives, ConnectedProcessesHappen}
 use Rattle.process_laws.specs.TwoProcesses.{roster, begin, first_file, left_file, hello_with, new_card, entry_of, sends, actions}
 use Rattle.process_laws.proofs.Differing.{same_differs}
@@ -485,7 +485,15 @@ first_carried =
         inr (let has : Has first_before one_seen = record { earlier = []; entry = named_then; left = New; front_is = refl; took = (2, lit< tt, refl); ids = (tt, tt) } in has),
         no_row_id (guest_at []) (spelling (id_frame id)),
         (
-          inr (let has : Has first_before two_seen = record { earlier = one_seen; entry = answered_then; left = New; front_is = refl; took = (4, lit< tt, refl); ids = (tt, tt) } in has),
+          inr (let has : Has first_before two_seen = record {
+            earlier = one_seen;
+            entry = answered_then;
+            left = New;
+            front_is = refl;
+            took = (4, lit< tt, refl);
+            ids =
+                (tt, tt);
+          } in has),
           no_row 0 None (guest_at one_seen) (spelling first_answer),
           tt,
         ),
@@ -690,12 +698,19 @@ may_all = (
   ),
 )
 
+-- each action is of one of the two
+last_places : AllByRecursion (λ (d : Action). place_of d < 2) (drop 13 order)
+last_places = (lit< tt, (lit< tt, (lit< tt, (lit< tt, (lit< tt, (lit< tt, (lit< tt, (lit< tt, (lit< tt, (lit< tt, (lit< tt, (lit< tt, tt))))))))))))
+
+first_places : AllByRecursion (λ (d : Action). place_of d < 2) order
+first_places = (lit< tt, (lit< tt, (lit< tt, (lit< tt, (lit< tt, (lit< tt, (lit< tt, (lit< tt, (lit< tt, (lit< tt, (lit< tt, (lit< tt, (lit< tt, last_places)))))))))))))
+
 connected : AreConnected roster begin lives order
 connected =
     record {
       lived = lived;
       own = below_two (λ i. own_of i order ≡ actions_of i (lives i)) refl refl;
-      no_others = (lit< tt, (lit< tt, (lit< tt, (lit< tt, (lit< tt, (lit< tt, (lit< tt, (lit< tt, (lit< tt, (lit< tt, (lit< tt, (lit< tt, (lit< tt, (lit< tt, (lit< tt, (lit< tt, (lit< tt, (lit< tt, (lit< tt, (lit< tt, (lit< tt, (lit< tt, (lit< tt, (lit< tt, (lit< tt, tt)))))))))))))))))))))))));
+      no_others = first_places;
       heard = λ i entry asker left before later cut. may_at [] order may_all i entry asker left before later cut;
     }
 

@@ -35,7 +35,8 @@ distinct_ids ports i (suc (suc j)) l k e = absurd (omega arith)
 is_local : (port : ℕ) → 1 ≤ port → port ≤ 65535 → IsAddr (local port)
 is_local port low high = record { ip = lit< tt; port_low = low; port_high = high }
 
-are_members : (ports : List ℕ) (i : ℕ) → i < 2 → IsAddr (slice_index_or (with_nodes ports).sentinels i no_member).addr × IsRunId (slice_index_or (with_nodes ports).sentinels i no_member).id
+are_members : (ports : List ℕ) (i : ℕ) → i < 2 → IsAddr (slice_index_or (with_nodes ports).sentinels i no_member).addr ×
+    IsRunId (slice_index_or (with_nodes ports).sentinels i no_member).id
 are_members ports zero l = (is_local 26379 (lit≤ tt) (lit≤ tt), record { hi = lit< tt; lo = lit< tt })
 are_members ports (suc zero) l = (is_local 26380 (lit≤ tt) (lit≤ tt), record { hi = lit< tt; lo = lit< tt })
 are_members ports (suc (suc i)) l = absurd (omega arith)

@@ -84,7 +84,10 @@ Meets before ds = AreActions roster 2 (actions_after (at_first begin) before) (a
 
 begins : Meets [] beginning
 unfolding on_literals
-begins = ((lit< tt, opens_here 0 id_a first_file 0 (lit< tt) refl (is_first 6380 (lit< tt) (lit≤ tt) 0 id_a)), ((lit< tt, opens_here 1 id_b first_file 0 (lit< tt) refl (is_first 6380 (lit< tt) (lit≤ tt) 1 id_b)), tt))
+begins = (
+  (lit< tt, opens_here 0 id_a first_file 0 (lit< tt) refl (is_first 6380 (lit< tt) (lit≤ tt) 0 id_a)),
+  ((lit< tt, opens_here 1 id_b first_file 0 (lit< tt) refl (is_first 6380 (lit< tt) (lit≤ tt) 1 id_b)), tt),
+)
 
 finds_down : Meets beginning finding_down
 unfolding on_literals

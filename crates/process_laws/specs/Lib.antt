@@ -12,4 +12,5 @@ pub mod Openings
 pub mod OwnActions
 pub mod Connected
 pub mod CarriedPieces
+pub mod FilesLeft
 pub mod TwoConnected

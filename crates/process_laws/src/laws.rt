@@ -3,6 +3,7 @@
 ghost use Rattle.process_laws.specs.Actions.{ProcessesAreARun, ProcessesAreSafe};
 ghost use Rattle.process_laws.specs.CarriedPieces.{PiecesAreCarried};
 ghost use Rattle.process_laws.specs.Connected.{ConnectedProcessesAreSafe};
+ghost use Rattle.process_laws.specs.FilesLeft.{FilesAreLeft};
 ghost use Rattle.process_laws.specs.GroupStarts.{OneGroupIsAStart};
 ghost use Rattle.process_laws.specs.LateAnswers.{LateAnswersHappen};
 ghost use Rattle.process_laws.specs.OwnActions.{OwnActionsAreActions};
@@ -76,4 +77,11 @@ pub fn law_connected_processes_happen()
 /// piece that it takes, at a reading of the clock of its own.
 pub fn law_pieces_are_carried()
     ensures { PiecesAreCarried }
+{}
+
+/// Where a process was opened by what its file held, and the file has either text that its history may have left there,
+/// the next process begins by what `law_connected_processes_are_safe` has in the file: what was stored, or after a
+/// refused store that or the new text. It is read as the same file but for that.
+pub fn law_files_are_left()
+    ensures { FilesAreLeft }
 {}
