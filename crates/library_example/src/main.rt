@@ -3,6 +3,8 @@
 //! alone.
 #![tactic(auto)]
 
+ghost use Rattle.ballot_law.specs.Limits.{IsWithinEvent};
+
 use ballot_law::{Event, Input};
 use sentinel_conf::{ConfStore, MemoryStore, read};
 use sentinel_core::Sentinel;
@@ -14,14 +16,21 @@ sentinel monitor mymaster 127.0.0.1 6379 1\n\
 sentinel known-replica mymaster 127.0.0.1 6380\n\
 sentinel down-after-milliseconds mymaster 1000\n";
 
-/// Takes an input, stores what it changed, and shows what it has the Sentinel say. False where a call is refused.
-fn turn(sentinel: &mut Sentinel, file: &mut MemoryStore, outbox: &mut Outbox, now: u64) -> bool {
+/// The tick of the first master at this reading of the clock.
+fn tick(now: u64) -> Input
+    ensures { IsWithinEvent result.event }
+{
     let event = Event::Tick {
         master: 0,
         random: 0,
     };
+    Input { now, event }
+}
+
+/// Takes an input, stores what it changed, and shows what it has the Sentinel say. False where a call is refused.
+fn turn(sentinel: &mut Sentinel, file: &mut MemoryStore, outbox: &mut Outbox, now: u64) -> bool {
     outbox.reserve(&sentinel.room()).is_ok()
-        && sentinel.take(&Input { now, event }, outbox).is_ok()
+        && sentinel.take(&tick(now), outbox).is_ok()
         && file.failures() < u64::MAX
         && sentinel.store(file).is_ok()
         && sentinel.release(outbox).is_ok()

@@ -9,7 +9,6 @@
 mod answers;
 mod best_replica;
 mod bodies;
-mod bounded_lists;
 mod broken_streams;
 mod channels;
 mod checked_files;
@@ -28,15 +27,11 @@ mod hellos;
 mod infos;
 mod link_talks;
 mod message_rows;
-mod names_and_texts;
 mod node_talks;
 mod nodes;
 mod noticed;
-mod outboxes;
-mod plans;
-mod reports;
 mod roles;
-mod rosters_in_order;
+mod rosters;
 mod scenario_lines;
 mod sentinels;
 mod spelling;
@@ -66,7 +61,6 @@ fn play(
 ) -> Result<(), Unplayed> {
     match family {
         "answers" => answers::play(rt.alloc(), call, words, told),
-        "bounded_lists" => bounded_lists::play(rt.alloc(), call, words, told),
         "channels" => channels::play(rt.alloc(), call, words, told),
         "conf_files" => conf_files::play(rt.alloc(), call, words, told),
         "commands" => commands::play(rt.alloc(), call, words, told),
@@ -79,9 +73,8 @@ fn play(
         "message_bytes" | "message_lines" | "comments" | "deliveries_to_nodes" => {
             message_rows::play(rt.alloc(), call, words, told)
         }
-        "names_and_texts" => names_and_texts::play(rt.alloc(), call, words, told),
         "node_talks" => node_talks::play(rt.alloc(), call, words, told),
-        "reports" => reports::play(rt.alloc(), call, words, told),
+        "rosters" => rosters::play(rt.alloc(), call, words, told),
         "scenario_lines" => scenario_lines::play(rt.alloc(), call, words, told),
         "memory_stores" | "file_stores" | "refused_stores" => {
             stores::play(rt, call, words, told)

@@ -7,9 +7,6 @@ use crate::conversations::Conversations;
 use crate::down_states::DownStates;
 use crate::failover_turns::Turns;
 use crate::nodes::Nodes;
-use crate::outboxes::Outboxes;
-use crate::plans::Plans;
-use crate::rosters_in_order::Rosters;
 use crate::sentinels::Sentinels;
 use crate::told::{Told, Unplayed};
 use crate::votes_and_elections::Votes;
@@ -28,12 +25,9 @@ pub(crate) enum Stage {
     Replicas(Box<Replicas>),
     Searches(Box<Searches>),
     Turns(Box<Turns>),
-    Rosters(Box<Rosters>),
     Sentinels(Box<Sentinels>),
     BrokenStreams(Box<BrokenStreams>),
     Nodes(Box<Nodes>),
-    Plans(Box<Plans>),
-    Outboxes(Box<Outboxes>),
     Conversations(Box<Conversations>),
 }
 
@@ -46,7 +40,6 @@ impl Stage {
             "best_replica" => Stage::Replicas(Box::new(alloc, Replicas::new(alloc))?),
             "client_searches" => Stage::Searches(Box::new(alloc, Searches::new(alloc))?),
             "failover_turns" => Stage::Turns(Box::new(alloc, Turns::new(alloc))?),
-            "rosters_in_order" => Stage::Rosters(Box::new(alloc, Rosters::new(alloc))?),
             "every_command"
             | "failovers"
             | "notices"
@@ -61,8 +54,6 @@ impl Stage {
                 Stage::BrokenStreams(Box::new(alloc, BrokenStreams::new(alloc))?)
             }
             "clients" | "data_nodes_alone" => Stage::Nodes(Box::new(alloc, Nodes::new(alloc))?),
-            "roster_plans" | "frame_rooms" => Stage::Plans(Box::new(alloc, Plans::new(alloc))?),
-            "outboxes" => Stage::Outboxes(Box::new(alloc, Outboxes::new(alloc))?),
             "courteous_streams"
             | "endings"
             | "listeners"
@@ -91,12 +82,9 @@ impl Stage {
             Stage::Replicas(replicas) => replicas.play(call, words, told),
             Stage::Searches(searches) => searches.play(call, words, told),
             Stage::Turns(turns) => turns.play(call, words, told),
-            Stage::Rosters(rosters) => rosters.play(call, words, told),
             Stage::Sentinels(sentinels) => sentinels.play(call, words, told),
             Stage::BrokenStreams(streams) => streams.play(call, words, told),
             Stage::Nodes(nodes) => nodes.play(call, words, told),
-            Stage::Plans(plans) => plans.play(call, words, told),
-            Stage::Outboxes(outboxes) => outboxes.play(call, words, told),
             Stage::Conversations(conversations) => conversations.play(wait, call, words, told),
         }
     }
