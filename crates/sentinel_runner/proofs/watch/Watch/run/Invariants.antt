@@ -1,6 +1,6 @@
 use Rattle.sentinel_runtime.specs.Saying.{IsReleased}
 use Rattle.sentinel_runner.proofs.watch.Watch.run.Given as goal
 
--- the Sentinel has its own cell for a name, and what its stored entries release may be said in it
+-- the Sentinel has its own cell for a name, what its stored entries release may be said in it, and of what comes from outside nothing is known
 abbrev pub ghosts-run_named : goal.ghosts-run_named
-ghosts-run_named g a = record { cell = a.watching.opened.cell.id; said = IsReleased a.watching.opened.cell.start }
+ghosts-run_named g a = record { cell = a.watching.opened.cell.id; said = IsReleased a.watching.opened.cell.start; told = λ event. Unit {0} }
