@@ -28,7 +28,8 @@ use std::sync::Wait;
 use std::sync::atomic::{AtomicU64, Ordering};
 use std::thread::{self, Threads};
 use tcp_transport::{
-    Connections, Connects, Logins, NetSockets, PlannedConnections, SentinelEnd, TickLoop, WatchState,
+    Connections, Connects, Logins, NetSockets, PlannedConnections, SentinelEnd, TickLoop,
+    WatchState,
 };
 
 /// How many threads use a Sentinel beside those of its port: that of its ticks.

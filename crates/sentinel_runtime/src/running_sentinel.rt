@@ -266,8 +266,8 @@ impl<J: Which, S: ConfStore> RunningSentinel<J, S> {
     }
 
     /// One input at a reading of the clock in milliseconds, which comes from no message or is what the Sentinel may be
-    /// told. What it says, once it is stored, goes to the outlet, and what it notes to the log and to the subscribers of
-    /// its port. At a fault it says nothing.
+    /// told. What it says, once it is stored, goes to the outlet, and what it notes to the log and to the subscribers
+    /// of its port. At a fault it says nothing.
     pub fn carry_out<O: Outlet<J>, R: Wait + Log>(
         &self,
         rt: &R,

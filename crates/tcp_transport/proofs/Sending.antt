@@ -24,9 +24,6 @@ left_with s unsent = record s { talk = record s.talk { unsent = unsent } }
 pub sends_nothing : (a b : Addr → (put got : List ℕ) → Type 0) (s : State) → IsQuiet a b → Sends a b s s
 sends_nothing a b s h = record { gone = []; front = refl; written = puts_nothing a b h; rest = refl }
 
-pub sends_zero : (a b : Addr → (put got : List ℕ) → Type 0) (s : State) → Puts a b (take 0 s.talk.unsent) → Sends a b s s
-sends_zero a b s h = record { gone = []; front = refl; written = h; rest = refl }
-
 pub sends_none : (a : Addr → (put got : List ℕ) → Type 0) (s : State) → Sends a a s s
 sends_none a s = sends_nothing a a s (λ addr put got is. is)
 

@@ -46,14 +46,17 @@ tells_more node listens asked more left (value ∷ values) events silent t =
 heard_more : (target : Target) (asked more : List Question) (got unsent : List ℕ) (talk : Link) → target.listens ≡ false → IsHeardSoFar target asked got talk
     → IsHeardSoFar target (asked ++ more) got (record talk { unsent = unsent; asked = talk.asked ++ more })
 heard_more target asked more got unsent talk silent (inl h) = inl (h.0, ap (λ (x : List Question). x ++ more) h.1, h.2)
-heard_more target asked more got unsent talk silent (inr h) = inr (h.0, record {
-  values = h.1.values;
-  rest = h.1.rest;
-  parts = h.1.parts;
-  waits = h.1.waits;
-  held_is = h.1.held_is;
-  tells = tells_more target.node target.listens asked more talk.asked h.1.values h.0 silent h.1.tells;
-})
+heard_more target asked more got unsent talk silent (inr h) = inr (
+  h.0,
+  record {
+    values = h.1.values;
+    rest = h.1.rest;
+    parts = h.1.parts;
+    waits = h.1.waits;
+    held_is = h.1.held_is;
+    tells = tells_more target.node target.listens asked more talk.asked h.1.values h.0 silent h.1.tells;
+  },
+)
 
 -- ---- one session
 

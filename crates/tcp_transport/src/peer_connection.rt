@@ -182,14 +182,7 @@ impl<J: Which, C: Connects<J>> PeerConnection<J, C> {
     }
 
     /// Begins to open it.
-    fn open(
-        &mut self,
-        net: &C,
-        registry: &Registry,
-        token: Token,
-        login: Login<'_>,
-        now: u64,
-    ) {
+    fn open(&mut self, net: &C, registry: &Registry, token: Token, login: Login<'_>, now: u64) {
         self.is_ending = false;
         self.link.open(net, registry, token, login, now);
     }

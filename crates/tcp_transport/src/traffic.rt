@@ -28,14 +28,16 @@ pub(crate) enum Unheard {
 }
 
 /// Writes once of what is unsent; the error says why nothing was taken.
-#[tactic(auto, using(crate::proofs::Sending::sends_nothing, crate::proofs::Sending::sends_zero, crate::proofs::Sending::sends_some))]
+#[tactic(auto, using(crate::proofs::Sending::sends_nothing, crate::proofs::Sending::sends_some))]
 fn write<J: Which, S: Socket<J>>(link: &mut NodeLink, socket: &mut S) -> Result<(), ErrorKind>
     ensures sent { Sends (S.stands socket.old) (S.stands socket.new) link.old link.new }
 {
     match socket.write(link.unsent()) {
-        Ok(0) => Err(ErrorKind::WriteZero),
         Ok(count) => {
             link.sent(count);
+            if count == 0 {
+                return Err(ErrorKind::WriteZero);
+            }
             Ok(())
         }
         Err(error) => Err(error.kind()),
@@ -89,8 +91,7 @@ fn read<J: Which, S: Socket<J>>(socket: &mut S, room: &mut [u8]) -> Result<usize
 
 /// Reads one piece, and adds what the values tell that are whole with it: how long it is. The error says why none was
 /// taken; what the values before a fault told was added. The Sentinel may be told all that is added.
-#[tactic(auto, using(crate::proofs::Hearing::heard, crate::proofs::Hearing::broken, crate::proofs::Hearing::no_more, crate::proofs::Hearing::told_heard,
-    crate::proofs::Hearing::told_broken, crate::proofs::Hearing::whole_heard, crate::proofs::Hearing::whole_quiet))]
+#[tactic(auto, using(crate::proofs::Hearing::heard, crate::proofs::Hearing::broken, crate::proofs::Hearing::no_more))]
 pub(crate) fn hear<J: Which, S: Socket<J>>(
     link: &mut NodeLink,
     socket: &mut S,
