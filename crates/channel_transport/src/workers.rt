@@ -1,5 +1,7 @@
 //! What the threads of a Sentinel of a group do until the group ends.
 
+ghost use Rattle.ballot_law.specs.declared.events.Event.{Event};
+
 use crate::delivery::Delivery;
 use crate::links::Links;
 use crossbeam_channel::{Receiver, RecvTimeoutError};
@@ -39,8 +41,8 @@ pub fn run_timer<J: Which, S: ConfStore, R: Wait + Clock + Log>(
     }
 }
 
-/// Has the Sentinel take each message that comes, until `ending` isn't 0, the Sentinel is halted, or nobody is left who
-/// could send. Many parameters: as those of `run_timer`.
+/// Has the Sentinel take each message that comes, all of which it may be told, until `ending` isn't 0, the Sentinel is
+/// halted, or nobody is left who could send. Many parameters: as those of `run_timer`.
 pub fn run_link<J: Which, S: ConfStore, R: Wait + Clock + Log>(
     rt: &R,
     state: &RunState,
@@ -49,7 +51,9 @@ pub fn run_link<J: Which, S: ConfStore, R: Wait + Clock + Log>(
     seat: &mut ThreadSeat<J>,
     deliveries: &Receiver<Delivery>,
     ending: &AtomicU64,
-) {
+)
+    requires told { (event : Event) → ∥ J.told event ∥₁ }
+{
     let mut outlet = links.outlet(rt);
     for _ in rt.forever() {
         if ending.load(Ordering::SeqCst) != 0 {

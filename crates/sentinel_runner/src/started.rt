@@ -1,6 +1,7 @@
 //! A Sentinel of a group in one process, and its threads.
 
 ghost use Rattle.std.specs.Prelude.{◌≡◌, ◌≢◌, ◌<◌, ◌+◌, ◌-◌, ◌^◌, ℕ, IfErr, IfOk, length};
+ghost use Rattle.ballot_law.specs.declared.events.Event.{Event};
 ghost use Rattle.ballot_law.specs.declared.messages.Message.{Message};
 ghost use Rattle.ballot_law.specs.declared.messages.Note.{Note};
 ghost use Rattle.sentinel_runtime.specs.Saying.{IsNoted, IsReleased};
@@ -243,6 +244,7 @@ where
     requires named { opened.cell.id ≡ J.cell }
     requires says { (message : Message) → IsReleased opened.cell.start message → ∥ J.said message ∥₁ }
     requires notes { (note : Note) (number : ℕ) → IsNoted opened.cell.start note number → ∥ J.noted note number ∥₁ }
+    requires told { (event : Event) → ∥ J.told event ∥₁ }
     requires seats { opened.beside ≡ BESIDE }
 {
     let Opened {
@@ -291,6 +293,7 @@ struct LinkPart<J: Which> {
     seat: ThreadSeat<J>,
     deliveries: Receiver<Delivery>,
     back: Sender<Back<J>>,
+    ghost told: { (event : Event) → ∥ J.told event ∥₁ },
 }
 
 /// What a thread of a Sentinel has that uses its links.
@@ -362,7 +365,8 @@ impl<J: Which> Seated<J> {
         ports: (Port, Vec<Port>),
         deliveries: Receiver<Delivery>,
     ) -> Result<(Seated<J>, Receiver<Back<J>>), AllocError>
-        requires { seat.seat.view.share ≡ length ports.1.items + 1 + BESIDE }
+        requires share { seat.seat.view.share ≡ length ports.1.items + 1 + BESIDE }
+        requires told { (event : Event) → ∥ J.told event ∥₁ }
     {
         let (port, ports) = ports;
         let (back, backs) = unbounded(alloc)?;

@@ -1,6 +1,7 @@
 //! One Sentinel of its own, which watches Redis servers and speaks to the other Sentinels over TCP.
 
 ghost use Rattle.std.specs.Prelude.{◌≡◌, ◌≢◌, ◌<◌, ◌≤◌, ◌+◌, ◌-◌, ◌^◌, ℕ, IfErr, IfOk, IfSome, IsSome, IsTrue, Ok, OnOk, length};
+ghost use Rattle.ballot_law.specs.declared.events.Event.{Event};
 ghost use Rattle.ballot_law.specs.declared.messages.Message.{Message};
 ghost use Rattle.ballot_law.specs.declared.messages.Note.{Note};
 ghost use Rattle.sentinel_conf.specs.Reading.{conf_of_bytes};
@@ -36,7 +37,10 @@ use std::rt::Clock;
 use std::sync::Wait;
 use std::sync::atomic::{AtomicU64, Ordering};
 use std::thread::{self, Threads};
-use tcp_transport::{Connections, Logins, PlannedConnections, SentinelEnd, TickLoop, WatchState};
+use tcp_transport::{
+    Connections, Connects, Logins, NetSockets, PlannedConnections, SentinelEnd, TickLoop,
+    WatchState,
+};
 
 /// How many threads use a Sentinel beside those of its port: that of its ticks.
 const BESIDE: u16 = 1;
@@ -314,6 +318,7 @@ where
     requires named { watching.opened.cell.id ≡ J.cell }
     requires says { (message : Message) → IsReleased watching.opened.cell.start message → ∥ J.said message ∥₁ }
     requires notes { (note : Note) (number : ℕ) → IsNoted watching.opened.cell.start note number → ∥ J.noted note number ∥₁ }
+    requires told { (event : Event) → ∥ J.told event ∥₁ }
     ensures { IfSome result (IsLeftByTurns S.held S.failure_count watching.opened.cell.start) }
 {
     let Watching { opened, alloc } = watching;
@@ -331,7 +336,7 @@ where
     let Ok((member, seat)) = made else {
         return none_for_want(&state.run, &state.ending);
     };
-    let (wires, far) = match wires.named::<J>() {
+    let (wires, far) = match wires.named::<J, NetSockets<'_, J, N>>(NetSockets::of(net)) {
         Ok(both) => both,
         Err(error) => {
             note_lost(&state.run, &error);
@@ -342,7 +347,7 @@ where
     let Ok((parts, back)) = seated(alloc, &member, seat, far, (port, others)) else {
         return none_for_want(&state.run, &state.ending);
     };
-    let mut wires = NetWires { wires, net };
+    let mut wires = OpenWires { wires };
     run_parts(rt, state, &member, parts, &mut wires);
     left_of(rt, alloc, member, &back)
 }
@@ -474,16 +479,15 @@ trait RunsWires {
     fn run<R: Wait + Clock + Log>(&mut self, rt: &R, state: &WatchState);
 }
 
-/// Connections with the handle for their sockets.
+/// Connections with their sockets.
 #[derive(Drop)]
-struct NetWires<'n, J: Which, N: Net> {
-    wires: Connections<J>,
-    net: &'n N,
+struct OpenWires<J: Which, C: Connects<J>> {
+    wires: Connections<J, C>,
 }
 
-impl<J: Which, N: Net> RunsWires for NetWires<'_, J, N> {
+impl<J: Which, C: Connects<J>> RunsWires for OpenWires<J, C> {
     fn run<R: Wait + Clock + Log>(&mut self, rt: &R, state: &WatchState) {
-        if let Err(error) = self.wires.run(rt, self.net, state) {
+        if let Err(error) = self.wires.run(rt, state) {
             note_lost(&state.run, &error);
         }
     }

@@ -1,3 +1,4 @@
+pub mod Hearing
 pub mod Running
 pub mod Saying
 pub mod Ticking

@@ -7,6 +7,7 @@ ghost use Rattle.boxed_nodes.specs.Sendable.{IsSendableOutput};
 ghost use Rattle.ballot_law.specs.declared.messages.Message.{Message};
 ghost use Rattle.ballot_law.specs.declared.messages.Note.{Note};
 ghost use Rattle.sentinel_runtime.specs.Running.{input_of, phase_of, IsLeftByTurns};
+ghost use Rattle.sentinel_runtime.specs.Hearing.{MayTake};
 ghost use Rattle.sentinel_runtime.specs.Saying.{IsNoted, IsReleased, IsSaid, MayNote};
 ghost use Rattle.sentinel_runtime.specs.declared.news.TheConstants.{EVENTS_MAX, WAITING_MAX};
 ghost use Rattle.courteous_sessions.specs.Clients.{informed, TakesSome, NotifiesClient};
@@ -41,11 +42,12 @@ use std::sync::{Mutex, Wait};
 /// What stands for no reading of the clock: it is above each of them.
 const NOT_TILTED: u64 = u64::MAX;
 
-/// Which Sentinel it is, what may be said in its name, and which of its notes may be told, with how many calls stand
-/// before. Only proofs read it.
+/// Which Sentinel it is, what may be said in its name, which of its notes may be told, with how many calls stand before,
+/// and what it may be told. Only proofs read it.
 pub trait Which {
     ghost use Rattle.std.specs.Prelude.{ℕ};
     ghost use Rattle.atomic_table.specs.Seated.{TableId};
+    ghost use Rattle.ballot_law.specs.declared.events.Event.{Event};
     ghost use Rattle.ballot_law.specs.declared.messages.Message.{Message};
     ghost use Rattle.ballot_law.specs.declared.messages.Note.{Note};
 
@@ -54,6 +56,8 @@ pub trait Which {
     ghost said: { Message → Type 0 };
 
     ghost noted: { Note → ℕ → Type 0 };
+
+    ghost told: { Event → Type 0 };
 }
 
 impl Which for Brand {
@@ -64,6 +68,8 @@ impl Which for Brand {
     ghost said = { λ message. Unit {0} };
 
     ghost noted = { λ note number. Unit {0} };
+
+    ghost told = { λ event. Unit {0} };
 }
 
 /// A Sentinel of the group, which its threads share. `far` is the last request for a vote whose epoch was too far above
@@ -270,8 +276,9 @@ impl<J: Which, S: ConfStore> RunningSentinel<J, S> {
         }
     }
 
-    /// One input at a reading of the clock in milliseconds. What the Sentinel says, once it is stored, goes to the
-    /// outlet, and what it notes to the log and to the subscribers of its port. At a fault it says nothing.
+    /// One input at a reading of the clock in milliseconds, which comes from no message or is what the Sentinel may be
+    /// told. What it says, once it is stored, goes to the outlet, and what it notes to the log and to the subscribers
+    /// of its port. At a fault it says nothing.
     pub fn carry_out<O: Outlet<J>, R: Wait + Log>(
         &self,
         rt: &R,
@@ -281,6 +288,7 @@ impl<J: Which, S: ConfStore> RunningSentinel<J, S> {
         event: Event,
     ) -> Result<(), ActFault>
         requires within { IsWithinEvent event }
+        requires told { MayTake J.told event }
         ensures added { OnOk result (Adds self.now.cell.start seat.old.seat.view (input_of now event) Stored seat.new.outbox.shown seat.new.seat.view) }
         ensures fault { IfErr result (λ fault. Faulted self.now.cell.start seat.old.seat.view (input_of now event) seat.new.outbox.shown seat.new.seat.view fault) }
         ensures handed { OnOk result (IfSome (O.handed outlet.old) (λ before. O.handed outlet.new ≡ Some (before ++ sent seat.new.outbox.shown))) }

@@ -4,6 +4,7 @@ ghost use Rattle.std.specs.Prelude.{◌≡◌, ◌⊎◌, ◌↔◌, ◌<◌, �
 ghost use Rattle.ballot_law.specs.Clocks.{clock};
 ghost use Rattle.ballot_law.specs.Messages.{sent};
 ghost use Rattle.ballot_law.specs.declared.messages.Message.{Message};
+ghost use Rattle.sentinel_runtime.specs.Hearing.{MayTake};
 ghost use Rattle.sentinel_runtime.specs.Running.{input_of, phase_of};
 ghost use Rattle.sentinel_runtime.specs.Ticking.{IsDueNext, Ticks, TicksAt, TickTook, Took};
 ghost use Rattle.sentinel_rules.specs.Plans.{group_size, master_count};
@@ -179,7 +180,8 @@ impl Ticker {
     }
 }
 
-/// Has the Sentinel take what was heard for it: whether it goes on. What it says goes to the outlet.
+/// Has the Sentinel take what was heard for it, which it may be told: whether it goes on. What it says goes to the
+/// outlet.
 pub fn hear<J: Which, S: ConfStore, O: Outlet<J>, R: Wait + Clock + Log>(
     rt: &R,
     state: &RunState,
@@ -188,7 +190,8 @@ pub fn hear<J: Which, S: ConfStore, O: Outlet<J>, R: Wait + Clock + Log>(
     outlet: &mut O,
     event: Event,
 ) -> bool
-    requires { IsWithinEvent event }
+    requires within { IsWithinEvent event }
+    requires told { MayTake J.told event }
     ensures took { (now : ℕ) × Took member.now.cell.start seat.old.seat.view (input_of now event) seat.new.outbox.shown seat.new.seat.view result }
     ensures handed { IfSome (O.handed outlet.old) (λ before. O.handed outlet.new ≡ Some (before ++ sent seat.new.outbox.shown)) }
 {

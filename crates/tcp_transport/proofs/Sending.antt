@@ -1,41 +1,54 @@
--- What is written by one call after the other, where the bytes may be unknown.
-use Rattle.std.proofs.Common.{◌≡◌, ℕ, List, [], ◌++◌, take, drop, Option, None, Some, append_assoc, sym, refl, ◌∙◌, ap, subst}
-use Rattle.std.specs.Io.KnownBytes.{Appends, Keeps}
+-- What is written by one call after the other.
+use Rattle.std.proofs.Common.{◌≡◌, ℕ, List, [], ◌++◌, take, drop, append_assoc, sym, refl, ◌∙◌, ap, subst}
 use Rattle.std.proofs.lemmas.List.{append-nil, take-append-drop}
+use Rattle.ballot_law.specs.declared.addresses.Addr.{Addr}
+use Rattle.ballot_law.specs.declared.messages.Message.{Message}
 use Rattle.links.specs.NodeLinks.{State}
+use Rattle.links.specs.Sessions.Links.{Link}
+use Rattle.tcp_transport.specs.Said.{Speaks}
+use Rattle.tcp_transport.specs.Sessions.{IsSession, IsWhole}
+use Rattle.tcp_transport.specs.Sockets.{IsQuiet, Puts}
 use Rattle.tcp_transport.specs.Traffic.{Sends}
+use Rattle.tcp_transport.proofs.Sessions.{whole_at}
 
-appends_nothing : (a b : Option (List ℕ)) → Keeps a b → Appends a b []
-appends_nothing None b h = tt
-appends_nothing (Some old) None h = absurd h
-appends_nothing (Some old) (Some new) h = h ∙ sym (append-nil old)
+puts_nothing : (a b : Addr → (put got : List ℕ) → Type 0) → IsQuiet a b → Puts a b []
+puts_nothing a b h = λ addr put got is. subst (λ (x : List ℕ). b addr x got) (sym (append-nil put)) (h addr put got is)
 
-appends_twice : (a b c : Option (List ℕ)) (xs ys : List ℕ) → Appends a b xs → Appends b c ys → Appends a c (xs ++ ys)
-appends_twice None b c xs ys h k = tt
-appends_twice (Some old) None c xs ys h k = absurd h
-appends_twice (Some old) (Some mid) None xs ys h k = absurd k
-appends_twice (Some old) (Some mid) (Some new) xs ys h k = k ∙ ap (λ t. t ++ ys) h ∙ append_assoc old xs ys
+puts_twice : (a b c : Addr → (put got : List ℕ) → Type 0) (xs ys : List ℕ) → Puts a b xs → Puts b c ys → Puts a c (xs ++ ys)
+puts_twice a b c xs ys h k = λ addr put got is. subst (λ (x : List ℕ). c addr x got) (append_assoc put xs ys) (k addr (put ++ xs) got (h addr put got is))
 
 abbrev left_with : State → List ℕ → State
 left_with s unsent = record s { talk = record s.talk { unsent = unsent } }
 
-pub sends_nothing : (a b : Option (List ℕ)) (s : State) → Keeps a b → Sends a b s s
-sends_nothing a b s h = record { gone = []; front = refl; written = appends_nothing a b h; rest = refl }
+-- nothing was taken
+pub sends_nothing : (a b : Addr → (put got : List ℕ) → Type 0) (s : State) → IsQuiet a b → Sends a b s s
+sends_nothing a b s h = record { gone = []; front = refl; written = puts_nothing a b h; rest = refl }
 
-pub sends_none : (a : Option (List ℕ)) (s : State) → Sends a a s s
-sends_none None s = record { gone = []; front = refl; written = tt; rest = refl }
-sends_none (Some old) s = record { gone = []; front = refl; written = sym (append-nil old); rest = refl }
+pub sends_none : (a : Addr → (put got : List ℕ) → Type 0) (s : State) → Sends a a s s
+sends_none a s = sends_nothing a a s (λ addr put got is. is)
 
-sent_front : (a b : Option (List ℕ)) (s : State) (n : ℕ) → Appends a b (take n s.talk.unsent) → Sends a b s (left_with s (drop n s.talk.unsent))
+sent_front : (a b : Addr → (put got : List ℕ) → Type 0) (s : State) (n : ℕ) → Puts a b (take n s.talk.unsent) → Sends a b s (left_with s (drop n s.talk.unsent))
 sent_front a b s n h = record { gone = take n s.talk.unsent; front = sym (take-append-drop n s.talk.unsent); written = h; rest = refl }
 
-pub sends_some : (a b : Option (List ℕ)) (s t : State) (n : ℕ) → Appends a b (take n s.talk.unsent) → t ≡ left_with s (drop n s.talk.unsent) → Sends a b s t
+pub sends_some : (a b : Addr → (put got : List ℕ) → Type 0) (s t : State) (n : ℕ) → Puts a b (take n s.talk.unsent) → t ≡ left_with s (drop n s.talk.unsent) → Sends a b s t
 sends_some a b s t n h is = subst (Sends a b s) (sym is) (sent_front a b s n h)
 
-pub sends_twice : (a b c : Option (List ℕ)) (s t u : State) → Sends a b s t → Sends b c t u → Sends a c s u
+pub sends_twice : (a b c : Addr → (put got : List ℕ) → Type 0) (s t u : State) → Sends a b s t → Sends b c t u → Sends a c s u
 sends_twice a b c s t u h k = record {
   gone = h.gone ++ k.gone;
   front = h.front ∙ ap (λ x. h.gone ++ x) k.front ∙ sym (append_assoc h.gone k.gone u.talk.unsent);
-  written = appends_twice a b c h.gone k.gone h.written k.written;
+  written = puts_twice a b c h.gone k.gone h.written k.written;
   rest = k.rest ∙ ap (λ (x : State). left_with x u.talk.unsent) h.rest;
 }
+
+-- what was taken is put out, and what is unsent is the rest
+pub whole_sent : (said : Message → Type 0) (a b : Addr → (put got : List ℕ) → Type 0) (s t : State) → IsWhole said a s → Sends a b s t → IsWhole said b t
+whole_sent said a b s t h k =
+    let session : IsSession said s.target (h.put ++ k.gone) h.got (record s.talk { unsent = t.talk.unsent }) =
+    record {
+      asked = h.session.asked;
+      speaks = subst (λ (x : List ℕ). Speaks said s.target x h.session.asked) (ap (λ (x : List ℕ). h.put ++ x) k.front ∙ sym (append_assoc h.put k.gone t.talk.unsent)) h.session.speaks;
+      heard = h.session.heard;
+    } in
+    whole_at said b s.target (record s.talk { unsent = t.talk.unsent }) (h.put ++ k.gone) h.got t (k.written s.target.addr h.put h.got h.socket) session
+    (ap (λ (x : State). x.target) k.rest) (ap (λ (x : State). x.talk) k.rest)

@@ -9,6 +9,7 @@ use crate::fault_notes::note_fault;
 use crate::logins::Logins;
 use crate::peer_connection::PeerConnection;
 use crate::roster_rows::RowNotes;
+use crate::sockets::Connects;
 use crate::traffic::PIECE;
 use ballot_law::{Body, Event, Message, NodeName, Roster};
 use links::{
@@ -60,13 +61,14 @@ pub struct PlannedConnections {
     alloc: Global,
 }
 
-/// The connections of one Sentinel, each at its place (`target_at`); its own place has none. Nothing goes out on them
-/// but what the Sentinel may say.
+/// The connections of one Sentinel, each at its place (`target_at`); its own place has none. Their sockets come from
+/// `net`. Nothing goes out on them but what the Sentinel may say, and what they hand on it may be told.
 #[derive(Drop)]
-pub struct Connections<J: Which> {
+pub struct Connections<J: Which, C: Connects<J>> {
+    net: C,
     poll: Poll,
     told: Events<Global>,
-    wires: Vec<Option<PeerConnection<J>>>,
+    wires: Vec<Option<PeerConnection<J, C>>>,
     roster: Roster,
     logins: Logins,
     near: TransportEnd<J>,
@@ -92,15 +94,15 @@ fn plans_of(alloc: Global, conf: &Conf) -> Result<Vec<Option<PlannedWire>>, Allo
 }
 
 /// These connections, none of which is open.
-fn wires_of<J: Which>(
+fn wires_of<J: Which, C: Connects<J>>(
     alloc: Global,
     plans: &[Option<PlannedWire>],
-) -> Result<Vec<Option<PeerConnection<J>>>, AllocError> {
+) -> Result<Vec<Option<PeerConnection<J, C>>>, AllocError> {
     let mut wires = Vec::new(alloc);
     for plan in plans {
         match plan {
             Some(plan) => {
-                let wire = PeerConnection::<J>::new(alloc, plan.target, plan.ping_each);
+                let wire = PeerConnection::<J, C>::new(alloc, plan.target, plan.ping_each);
                 wires.push(Some(wire))?;
             }
             None => wires.push(None)?,
@@ -161,9 +163,12 @@ impl PlannedConnections {
         })
     }
 
-    /// They are those of this Sentinel: they, and the Sentinel's end of them. The error is the system's; `OutOfMemory`
-    /// is a refused allocation.
-    pub fn named<J: Which>(self) -> io::Result<(Connections<J>, SentinelEnd<J>)> {
+    /// They are those of this Sentinel, by these sockets: they, and the Sentinel's end of them. The error is the
+    /// system's; `OutOfMemory` is a refused allocation.
+    pub fn named<J: Which, C: Connects<J> + Drop>(
+        self,
+        net: C,
+    ) -> io::Result<(Connections<J, C>, SentinelEnd<J>)> {
         let PlannedConnections {
             poll,
             told,
@@ -176,9 +181,10 @@ impl PlannedConnections {
         } = self;
         let (near, far) = exchange::<J>(alloc, poll.registry(), epoch)?;
         let wires = Connections {
+            net,
             poll,
             told,
-            wires: wires_of(alloc, plans.as_slice())?,
+            wires: wires_of::<J, C>(alloc, plans.as_slice())?,
             roster,
             logins,
             near,
@@ -191,15 +197,15 @@ impl PlannedConnections {
     }
 }
 
-impl<J: Which> Connections<J> {
+impl<J: Which, C: Connects<J>> Connections<J, C> {
     /// Closes connections of no use, opens those that are due, asks what they ask by themselves, and tells the Sentinel
     /// which were lost, at this reading of the clock.
-    fn keep_all<R: Wait, N: Net>(&mut self, rt: &R, net: &N, now: u64) {
+    fn keep_all<R: Wait>(&mut self, rt: &R, now: u64) {
         for place in 0..self.wires.len() {
             if let Some(Some(wire)) = self.wires.get_mut(place) {
                 let node = wire.node();
                 let login = login_of(&self.roster, &self.logins, node);
-                wire.keep(net, self.poll.registry(), Token(place), login, now);
+                wire.keep(&self.net, self.poll.registry(), Token(place), login, now);
                 wire.ask_row(&self.roster, now);
                 if wire.take_loss(now) {
                     self.near.hand_on(rt, Event::Disconnected { node }, now);
@@ -369,10 +375,9 @@ impl<J: Which> Connections<J> {
     }
 
     /// One turn: hears until a message is to go out or the connections are to be kept, does that, and rests.
-    fn turn<R: Wait + Clock + Log, N: Net>(
+    fn turn<R: Wait + Clock + Log>(
         &mut self,
         rt: &R,
-        net: &N,
         state: &WatchState,
         pace: &mut TickSchedule,
     ) -> io::Result<()> {
@@ -385,7 +390,7 @@ impl<J: Which> Connections<J> {
         }
         self.put_out_all(rt, now);
         if pace.until_tick(now) == 0 || self.is_due(now) {
-            self.keep_all(rt, net, now);
+            self.keep_all(rt, now);
             pace.tick_due = now.saturating_add(KEEP_MS);
         }
         pace.turn(now);
@@ -397,18 +402,13 @@ impl<J: Which> Connections<J> {
     /// Keeps the connections, hands on what they hear and puts out what is to go out, until the threads end or the
     /// Sentinel is halted. The error is the system's, where it tells of no connection any more, or a refused
     /// allocation.
-    pub fn run<R: Wait + Clock + Log, N: Net>(
-        &mut self,
-        rt: &R,
-        net: &N,
-        state: &WatchState,
-    ) -> io::Result<()> {
+    pub fn run<R: Wait + Clock + Log>(&mut self, rt: &R, state: &WatchState) -> io::Result<()> {
         let mut pace = TickSchedule::new(state.run.clock.now(rt));
         for _ in rt.forever() {
             if state.ending.load(Ordering::SeqCst) != 0 || state.run.has(RunFault::Halted) {
                 return Ok(());
             }
-            self.turn(rt, net, state, &mut pace)?;
+            self.turn(rt, state, &mut pace)?;
         }
         unreachable!()
     }

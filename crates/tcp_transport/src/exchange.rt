@@ -4,6 +4,8 @@ ghost use Rattle.std.specs.Prelude.{◌≡◌, IfSome};
 ghost use Rattle.boxed_nodes.specs.Sendable.{IsSendable};
 ghost use Rattle.node_texts.specs.Messages.MessageTexts.{IsWritable};
 ghost use Rattle.ballot_law.specs.Limits.{IsWithinEvent};
+ghost use Rattle.sentinel_runtime.specs.Hearing.{MayTake};
+ghost use Rattle.tcp_transport.specs.Hearing.{IsTakeable};
 
 use ballot_law::{Event, Message};
 use crossbeam_channel::{Receiver, Sender, unbounded};
@@ -75,38 +77,44 @@ impl<J: Which> Outgoing<J> {
     }
 }
 
-/// What a connection heard, which a Sentinel may take. Contracts see the event.
+/// What a connection heard, which the Sentinel may take: where it is no free event, it may be told that. Contracts see
+/// the event.
 #[derive(Drop)]
-pub(crate) struct Hearing {
+pub(crate) struct Hearing<J: Which> {
     event: Event,
+    of: PhantomData<J>,
 }
 
-impl Model for Hearing {
+impl<J: Which> Model for Hearing<J> {
     ghost use Rattle.ballot_law.specs.declared.events.Event.{Event};
-    ghost use Rattle.ballot_law.specs.Limits.{IsWithinEvent};
+    ghost use Rattle.tcp_transport.specs.Hearing.{IsTakeable};
 
     ghost Value = { Event };
 
     ghost view = { λ hearing. hearing.event };
 
-    ghost invariant = { λ hearing. IsWithinEvent hearing.event };
+    ghost invariant = { λ hearing. IsTakeable J.told hearing.event };
 }
 
-impl Hearing {
+impl<J: Which> Hearing<J> {
     /// The hearing of this event.
-    pub(crate) fn of(event: Event) -> Hearing
-        requires { IsWithinEvent event }
+    pub(crate) fn of(event: Event) -> Hearing<J>
+        requires within { IsWithinEvent event }
+        requires told { MayTake J.told event }
         ensures { result ≡ event }
     {
-        Hearing { event }
+        Hearing {
+            event,
+            of: PhantomData,
+        }
     }
 
     /// The event.
     pub(crate) fn into_event(self) -> Event
-        ensures within { IsWithinEvent result }
+        ensures takeable { IsTakeable J.told result }
         ensures event { result ≡ self }
     {
-        let Hearing { event } = self;
+        let Hearing { event, of: _ } = self;
         event
     }
 }
@@ -116,7 +124,7 @@ impl Hearing {
 #[derive(Drop)]
 pub(crate) struct TransportEnd<J: Which> {
     messages: Receiver<Outgoing<J>>,
-    heard: Sender<Hearing>,
+    heard: Sender<Hearing<J>>,
     hellos: HelloDedup,
 }
 
@@ -125,7 +133,7 @@ pub(crate) struct TransportEnd<J: Which> {
 #[derive(Drop)]
 pub struct SentinelEnd<J: Which> {
     epoch: u64,
-    heard: Receiver<Hearing>,
+    heard: Receiver<Hearing<J>>,
     messages: Sender<Outgoing<J>>,
     waker: Waker,
     alloc: Global,
@@ -168,7 +176,8 @@ impl<J: Which> TransportEnd<J> {
     /// Hands an event on to the Sentinel that a connection heard at this reading of the clock. Where too many wait for
     /// it, the event is lost, as a message may be on its way; so is a hello that another connection heard a moment ago.
     pub(crate) fn hand_on<R: Wait>(&mut self, rt: &R, event: Event, now: u64)
-        requires { IsWithinEvent event }
+        requires within { IsWithinEvent event }
+        requires told { MayTake J.told event }
     {
         if let Event::HelloRead { text } = &event {
             if !self.hellos.hear(now, text.as_slice()) {
@@ -190,7 +199,7 @@ impl<J: Which> SentinelEnd<J> {
 
     /// Waits for the next event so many milliseconds at most; none where nothing came.
     pub(crate) fn next<R: Wait + Clock>(&self, rt: &R, millis: u64) -> Option<Event>
-        ensures { IfSome result IsWithinEvent }
+        ensures { IfSome result (IsTakeable J.told) }
     {
         match self.heard.recv_timeout(rt, Duration::from_millis(millis)) {
             Ok(hearing) => Some(hearing.into_event()),

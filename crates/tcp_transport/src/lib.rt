@@ -15,10 +15,12 @@ mod peer_connection;
 mod replica_notes;
 mod roster_rows;
 mod said_link;
+mod sockets;
 mod tick_loop;
 mod traffic;
 
 pub use connections::{Connections, PlannedConnections};
 pub use exchange::{SentinelEnd, WatchState};
 pub use logins::Logins;
+pub use sockets::{Connects, NetSocket, NetSockets, Socket};
 pub use tick_loop::TickLoop;

@@ -2,21 +2,21 @@
 
 ghost use Rattle.std.specs.Prelude.{◌≡◌, ◌↔◌, IsTrue, false};
 ghost use Rattle.std.specs.List.{AllByRecursion};
-ghost use Rattle.ballot_law.specs.Limits.{IsWithinEvent};
+ghost use Rattle.tcp_transport.specs.Hearing.{IsTakeable};
 
 use crate::exchange::{Outgoing, TransportEnd};
 use crate::roster_rows::{RowHeard, RowLook};
 use crate::said_link::SaidLink;
-use crate::traffic::{Unheard, hear, send};
-use ballot_law::{Addr, Body, Event, NodeName, Roster};
+use crate::sockets::Connects;
+use crate::traffic::Unheard;
+use ballot_law::{Body, Event, NodeName, Roster};
 use links::{FLOW_MS, LinkFault, Login, RateLimit, Stage, Target, is_refusal, wants_login};
 use log::{Log, warn};
-use mio::net::TcpStream;
-use mio::{Interest, Registry, Token};
+use mio::{Registry, Token};
 use sentinel_runtime::Which;
 use std::alloc::Global;
 use std::io::ErrorKind;
-use std::net::{Ipv4Addr, Net, SocketAddr};
+use std::net::Ipv4Addr;
 use std::str::from_utf8;
 use std::sync::Wait;
 
@@ -36,7 +36,7 @@ const ACKS_MS: u64 = 2_500;
 /// those that were to hear that hello, and these are back by then.
 const HELLO_AGAIN_MS: u64 = 150;
 
-/// A connection to a node, with its socket where it is open or being opened. `goes_on` is whether it may have more to
+/// A connection to a node, by the sockets that `C` makes. `goes_on` is whether it may have more to
 /// read, `is_ending` whether the system told of its end, `is_refused` whether the node refused who asks when it was
 /// heard last, `look_at` when it is to be asked what came of an order, `fault` the fault of what came that closed it
 /// last, and `shut_until` until when it stays closed, since too much came on it, `is_lost` whether it was told to be
@@ -44,9 +44,8 @@ const HELLO_AGAIN_MS: u64 = 150;
 /// `rows` what it asks another Sentinel for its rows, `acks_until` until when its node is asked to acknowledge its
 /// master's stream, `hello` the last hello that went out on it, `hello_at` when that goes out once more.
 #[derive(Drop)]
-pub(crate) struct PeerConnection<J: Which> {
-    link: SaidLink<J>,
-    stream: Option<TcpStream>,
+pub(crate) struct PeerConnection<J: Which, C: Connects<J>> {
+    link: SaidLink<J, C>,
     goes_on: bool,
     is_ending: bool,
     is_refused: bool,
@@ -63,39 +62,15 @@ pub(crate) struct PeerConnection<J: Which> {
     alloc: Global,
 }
 
-/// A socket's address.
-fn socket_of(addr: Addr) -> SocketAddr {
-    SocketAddr::from((Ipv4Addr::from(addr.ip), addr.port))
-}
-
-/// Begins to connect, and has the system tell of it under this token; none where it can't.
-fn connected<N: Net>(net: &N, registry: &Registry, token: Token, addr: Addr) -> Option<TcpStream> {
-    let mut stream = TcpStream::connect(net, socket_of(addr)).ok()?;
-    let interest = Interest::READABLE | Interest::WRITABLE;
-    registry.register(&mut stream, token, interest).ok()?;
-    Some(stream)
-}
-
-/// Whether the socket stands, once the system has told of it: `None` where it isn't known yet.
-fn is_connected(stream: &TcpStream) -> Option<bool> {
-    match stream.take_error() {
-        Ok(None) => {}
-        _ => return Some(false),
-    }
-    if stream.peer_addr().is_ok() {
-        return Some(true);
-    }
-    None
-}
-
-/// Hands these events on to the Sentinel, in their order. They are those of one read, so there are few.
+/// Hands these events on to the Sentinel, in their order, which it may take. They are those of one read, so there are
+/// few.
 fn hand_on_all<J: Which, R: Wait>(
     rt: &R,
     near: &mut TransportEnd<J>,
     mut events: Vec<Event>,
     now: u64,
 )
-    requires { AllByRecursion IsWithinEvent events.items }
+    requires { AllByRecursion (IsTakeable J.told) events.items }
 {
     while !events.is_empty() {
         let event = events.remove(0);
@@ -118,12 +93,11 @@ fn error_in(piece: &[u8]) -> &str {
     "an error"
 }
 
-impl<J: Which> PeerConnection<J> {
+impl<J: Which, C: Connects<J>> PeerConnection<J, C> {
     /// A connection that isn't open, and is to be opened at once, with so many milliseconds between two PINGs.
-    pub(crate) fn new(alloc: Global, target: Target, ping_each: u64) -> PeerConnection<J> {
+    pub(crate) fn new(alloc: Global, target: Target, ping_each: u64) -> PeerConnection<J, C> {
         PeerConnection {
             link: SaidLink::new(alloc, target, ping_each),
-            stream: None,
             goes_on: false,
             is_ending: false,
             is_refused: false,
@@ -199,38 +173,24 @@ impl<J: Which> PeerConnection<J> {
         self.is_ending = true;
     }
 
-    /// Drops the socket where the connection is closed.
+    /// Where the connection is closed, nothing more is to be read, and no row is awaited.
     fn settle(&mut self) {
         if self.link.schedule().stage == Stage::Closed {
-            self.stream = None;
             self.goes_on = false;
             self.rows.end();
         }
     }
 
     /// Begins to open it.
-    fn open<N: Net>(
-        &mut self,
-        net: &N,
-        registry: &Registry,
-        token: Token,
-        login: Login<'_>,
-        now: u64,
-    ) {
-        if self.link.open(login, now).is_err() {
-            return;
-        }
+    fn open(&mut self, net: &C, registry: &Registry, token: Token, login: Login<'_>, now: u64) {
         self.is_ending = false;
-        self.stream = connected(net, registry, token, self.link.target().addr);
-        if self.stream.is_none() {
-            self.link.close(now);
-        }
+        self.link.open(net, registry, token, login, now);
     }
 
     /// Closes it where it is given up, opens it where that is due, and asks what it asks by itself.
-    pub(crate) fn keep<N: Net>(
+    pub(crate) fn keep(
         &mut self,
-        net: &N,
+        net: &C,
         registry: &Registry,
         token: Token,
         login: Login<'_>,
@@ -346,14 +306,8 @@ impl<J: Which> PeerConnection<J> {
 
     /// Sends what is unsent, where it is open. A socket that takes no more closes it.
     fn send_out(&mut self, now: u64) {
-        if self.link.schedule().is_open() {
-            let whole = match &mut self.stream {
-                Some(stream) => send(&mut self.link, stream),
-                None => false,
-            };
-            if !whole {
-                self.link.close(now);
-            }
+        if self.link.schedule().is_open() && !self.link.send() {
+            self.link.close(now);
         }
         self.settle();
     }
@@ -399,7 +353,7 @@ impl<J: Which> PeerConnection<J> {
     /// Reads one piece, and hands on what it tells: how long it is; the error says why none was taken, or that more
     /// comes than a node has to say: then the connection is shut for a second, so that what other nodes say isn't lost
     /// beside it; or that the node wants a password first, so that the connection is of no use, as in Redis.
-    #[tactic(auto, using(crate::proofs::Hearing::all_within_told))]
+    #[tactic(auto, using(crate::proofs::Hearing::all_takeable))]
     fn read_once<R: Wait + Log>(
         &mut self,
         rt: &R,
@@ -407,11 +361,8 @@ impl<J: Which> PeerConnection<J> {
         room: &mut [u8],
         now: u64,
     ) -> Result<usize, ErrorKind> {
-        let Some(stream) = &mut self.stream else {
-            return Err(ErrorKind::NotConnected);
-        };
         let mut events = Vec::new(self.alloc);
-        let heard = hear(&mut self.link, stream, room, now, &mut events);
+        let heard = self.link.hear(room, now, &mut events);
         let is_flooded = self.flow.add(now, events.len() as u64);
         let is_staying = events.iter().any(|event| is_stay(event));
         hand_on_all(rt, near, events, now);
@@ -467,10 +418,7 @@ impl<J: Which> PeerConnection<J> {
         if self.link.schedule().is_open() {
             return true;
         }
-        let Some(stream) = &self.stream else {
-            return false;
-        };
-        match is_connected(stream) {
+        match self.link.is_connected() {
             Some(true) => self.link.reach(now),
             Some(false) => self.link.close(now),
             None => {}

@@ -1,48 +1,57 @@
-//! A connection of a Sentinel to a node, without its socket, on which nothing goes out but what the Sentinel may say.
+//! A connection of a Sentinel to a node with its socket, on which nothing goes out but what the Sentinel may say, and
+//! by which it is told nothing but what came.
 
-ghost use Rattle.std.specs.Prelude.{◌≡◌, ◌≢◌, ◌≤◌, ◌++◌, List, length, drop, OnErr, OnOk};
+ghost use Rattle.std.specs.Prelude.{◌≡◌, ◌≢◌, ◌≤◌, ◌++◌, List, false, length, IfOk, OnErr, OnOk};
 ghost use Rattle.std.specs.List.{AllByRecursion};
 ghost use Rattle.ballot_law.specs.declared.events.Event.{Event};
-ghost use Rattle.links.specs.Sessions.Links.{Receives};
-ghost use Rattle.links.specs.NodeLinks.{closed_at, opening_at, asked_at, IsHeardOn};
+ghost use Rattle.links.specs.NodeLinks.{closed_at, asked_at};
 ghost use Rattle.links.specs.declared.schedule.Stage.TheVariants.{Closed, Open};
-ghost use Rattle.tcp_transport.specs.Said.{Speaks};
+ghost use Rattle.tcp_transport.specs.Told.{IsToldOn};
 
 use crate::exchange::Outgoing;
+use crate::sockets::{Connects, connected, is_connected};
+use crate::traffic::{Unheard, hear, send};
 use ballot_law::Event;
 use links::{LinkFault, Login, NodeLink, Schedule, Target};
+use mio::{Registry, Token};
 use sentinel_runtime::Which;
 use std::alloc::Global;
+use std::io::ErrorKind;
 use std::marker::{Model, PhantomData};
 
-/// A connection to a node, without its socket: what goes out on it is what comes before all messages, messages that the
-/// Sentinel may say to that node, and what it asks by itself. Contracts see the connection.
+/// A connection to a node, with its socket where it is open or being opened. That is to the node's address. What was
+/// put out on it since it was opened, and what is unsent, is what comes before all messages, messages that the Sentinel
+/// may say to that node, and what it asks by itself; and what is awaited and held is what is left of all that came on
+/// it. Contracts see the connection without its socket.
 #[derive(Drop)]
-pub(crate) struct SaidLink<J: Which> {
+pub(crate) struct SaidLink<J: Which, C: Connects<J>> {
     link: NodeLink,
+    socket: Option<C::Stream>,
     of: PhantomData<J>,
 }
 
-impl<J: Which> Model for SaidLink<J> {
+impl<J: Which, C: Connects<J>> Model for SaidLink<J, C> {
     ghost use Rattle.links.specs.NodeLinks.{State};
-    ghost use Rattle.tcp_transport.specs.Said.{Speaks};
+    ghost use Rattle.tcp_transport.specs.Sessions.{IsWhole};
+    ghost use Rattle.tcp_transport.specs.Sockets.{stands_of};
 
     ghost Value = { State };
 
     ghost view = { λ said. said.link };
 
-    ghost invariant = { λ said. Speaks J.said said.link.target said.link.talk.unsent };
+    ghost invariant = { λ said. IsWhole J.said (stands_of C.Stream.stands said.socket) said.link };
 }
 
-impl<J: Which> SaidLink<J> {
+impl<J: Which, C: Connects<J>> SaidLink<J, C> {
     /// A connection that isn't open, and is to be opened at once, with so many milliseconds between two PINGs.
-    #[tactic(auto, using(crate::proofs::Speech::speaks_nothing))]
-    pub(crate) fn new(alloc: Global, target: Target, ping_each: u64) -> SaidLink<J>
+    #[tactic(auto, using(crate::proofs::Sessions::whole_fresh))]
+    pub(crate) fn new(alloc: Global, target: Target, ping_each: u64) -> SaidLink<J, C>
         ensures target { result.target ≡ target }
         ensures stage { result.schedule.stage ≡ Closed }
     {
         SaidLink {
             link: NodeLink::new(alloc, target, ping_each),
+            socket: None,
             of: PhantomData,
         }
     }
@@ -52,13 +61,6 @@ impl<J: Which> SaidLink<J> {
         ensures { result.now ≡ self.now }
     {
         &self.link
-    }
-
-    /// What was put out on it since it was opened, and isn't sent yet, may be said.
-    pub(crate) fn speaks(&self)
-        ensures { Speaks J.said self.now.target self.now.talk.unsent }
-    {
-        let _ = &self.link;
     }
 
     /// The node that it is to.
@@ -75,25 +77,50 @@ impl<J: Which> SaidLink<J> {
         self.link.schedule()
     }
 
-    /// It is closed from now on.
-    #[tactic(auto, using(crate::proofs::Speech::speaks_closed))]
+    /// Whether its socket stands, once the system has told of it: `None` where it isn't known yet, or there is none.
+    pub(crate) fn is_connected(&self) -> Option<bool> {
+        match &self.socket {
+            Some(socket) => is_connected::<J, C::Stream>(socket),
+            None => None,
+        }
+    }
+
+    /// It is closed from now on, and its socket with it.
+    #[tactic(auto, using(crate::proofs::Sessions::whole_fresh))]
     pub(crate) fn close(&mut self, now: u64)
         ensures { self.new ≡ closed_at now self.old }
     {
         self.link.close(now);
+        self.socket = None;
     }
 
-    /// It is being opened from now on, and what comes before all messages is unsent. A fault leaves it closed.
-    #[tactic(auto, using(crate::proofs::Speech::speaks_opened))]
-    pub(crate) fn open(&mut self, login: Login<'_>, now: u64) -> Result<(), LinkFault>
-        ensures ok { OnOk result (self.new ≡ opening_at now login.entry self.old) }
-        ensures err { OnErr result (self.new ≡ closed_at now self.old) }
+    /// It is being opened from now on, by a socket of its own, of which the system tells under this token, and what
+    /// comes before all messages is unsent. A fault, or a socket that can't be had, leaves it closed.
+    #[tactic(auto, using(crate::proofs::Sessions::whole_fresh))]
+    pub(crate) fn open(
+        &mut self,
+        net: &C,
+        registry: &Registry,
+        token: Token,
+        login: Login<'_>,
+        now: u64,
+    )
+        ensures target { self.new.target ≡ self.old.target }
     {
-        self.link.open(login, now)
+        self.socket = None;
+        match self.link.open(login, now) {
+            Ok(()) => {
+                match connected::<J, C>(net, registry, token, self.link.target().addr) {
+                    Some(socket) => self.socket = Some(socket),
+                    None => self.link.close(now),
+                }
+            }
+            Err(_) => {}
+        }
     }
 
     /// It is open from now on.
-    #[tactic(auto, using(crate::proofs::Speech::speaks_timed))]
+    #[tactic(auto, using(crate::proofs::Sessions::whole_timed))]
     pub(crate) fn reach(&mut self, now: u64)
         ensures { (self.new.target ≡ self.old.target) × (self.new.talk ≡ self.old.talk) }
     {
@@ -101,7 +128,7 @@ impl<J: Which> SaidLink<J> {
     }
 
     /// What was silent so far counts no more: it was this Sentinel that stood still.
-    #[tactic(auto, using(crate::proofs::Speech::speaks_timed))]
+    #[tactic(auto, using(crate::proofs::Sessions::whole_timed))]
     pub(crate) fn excuse(&mut self, now: u64)
         ensures { (self.new.target ≡ self.old.target) × (self.new.talk ≡ self.old.talk) }
     {
@@ -109,90 +136,157 @@ impl<J: Which> SaidLink<J> {
     }
 
     /// Where it is closed, it is to be opened at once: the node ended a connection that had lasted.
-    #[tactic(auto, using(crate::proofs::Speech::speaks_timed))]
+    #[tactic(auto, using(crate::proofs::Sessions::whole_timed))]
     pub(crate) fn forgive(&mut self)
         ensures { (self.new.target ≡ self.old.target) × (self.new.talk ≡ self.old.talk) }
     {
         self.link.forgive();
     }
 
-    /// Takes away the first `n` bytes of what isn't sent yet, which the socket took.
-    #[tactic(auto, using(crate::proofs::Speech::speaks_sent))]
-    pub(crate) fn sent(&mut self, n: usize)
-        requires { n ≤ length self.old.talk.unsent }
-        ensures { self.new ≡ record self.old { talk = record self.old.talk { unsent = drop n self.old.talk.unsent } } }
-    {
-        self.link.sent(n);
-    }
-
     /// Puts out a message to its node that may be said, where it is open; else the message is lost. A fault closes it.
-    #[tactic(auto, using(crate::proofs::Speech::speaks_message))]
+    #[tactic(auto, using(crate::proofs::Sessions::whole_message, crate::proofs::Sessions::whole_fresh))]
     pub(crate) fn ask(&mut self, outgoing: &Outgoing<J>, now: u64) -> Result<(), LinkFault>
-        requires { self.old.target.node ≡ outgoing.now.target }
+        requires target { self.old.target.node ≡ outgoing.now.target }
+        requires speaks { self.old.target.listens ≡ false }
         ensures shut { self.old.schedule.stage ≢ Open → self.new ≡ self.old }
         ensures ok { OnOk result (self.old.schedule.stage ≡ Open → self.new ≡ asked_at now outgoing.now.body self.old) }
         ensures err { OnErr result (self.new ≡ closed_at now self.old) }
         ensures target { self.new.target ≡ self.old.target }
     {
-        self.link.ask(outgoing.message(), now)
-    }
-
-    /// Takes the next piece of what the node sends, and adds what the values tell that are whole with it. A fault
-    /// closes it.
-    #[tactic(auto, using(crate::proofs::Speech::speaks_heard))]
-    pub(crate) fn received(
-        &mut self,
-        piece: &[u8],
-        now: u64,
-        events: &mut Vec<Event>,
-    ) -> Result<(), LinkFault>
-        ensures received { (more : List Event) × (events.new.items ≡ events.old.items ++ more) × AllByRecursion (IsHeardOn self.old.target) more
-            × Receives self.old.target.node self.old.target.listens self.old.talk.asked (self.old.talk.held ++ piece.now)
-            result more self.new.talk.asked self.new.talk.held }
-        ensures unsent { OnOk result (self.new.talk.unsent ≡ self.old.talk.unsent) }
-        ensures target { self.new.target ≡ self.old.target }
-        ensures err { OnErr result (self.new ≡ closed_at now self.old) }
-    {
-        self.link.received(piece, now, events)
+        match self.link.ask(outgoing.message(), now) {
+            Ok(()) => Ok(()),
+            Err(fault) => {
+                self.socket = None;
+                Err(fault)
+            }
+        }
     }
 
     /// Sends a PING, where it is open and takes messages. A fault closes it.
-    #[tactic(auto, using(crate::proofs::Speech::speaks_alone))]
+    #[tactic(auto, using(crate::proofs::Sessions::whole_own, crate::proofs::Sessions::whole_fresh))]
     pub(crate) fn ping(&mut self, now: u64) -> Result<(), LinkFault>
         ensures target { self.new.target ≡ self.old.target }
     {
-        self.link.ping(now)
+        if self.link.target().listens {
+            return Ok(());
+        }
+        match self.link.ping(now) {
+            Ok(()) => Ok(()),
+            Err(fault) => {
+                self.socket = None;
+                Err(fault)
+            }
+        }
     }
 
     /// Asks for INFO, where it is open, takes messages, and is to a data node. A fault closes it.
-    #[tactic(auto, using(crate::proofs::Speech::speaks_looked))]
+    #[tactic(auto, using(crate::proofs::Sessions::whole_own, crate::proofs::Sessions::whole_fresh))]
     pub(crate) fn look(&mut self, now: u64) -> Result<(), LinkFault>
         ensures target { self.new.target ≡ self.old.target }
     {
-        self.link.look(now)
+        if self.link.target().listens {
+            return Ok(());
+        }
+        match self.link.look(now) {
+            Ok(()) => Ok(()),
+            Err(fault) => {
+                self.socket = None;
+                Err(fault)
+            }
+        }
     }
 
     /// Asks for the row of a master, by its name, where no answer is awaited: whether it asked. A fault closes it.
-    #[tactic(auto, using(crate::proofs::Speech::speaks_row))]
+    #[tactic(auto, using(crate::proofs::Sessions::whole_fresh))]
     pub(crate) fn ask_row(&mut self, name: &[u8], now: u64) -> Result<bool, LinkFault>
         ensures target { self.new.target ≡ self.old.target }
     {
-        self.link.ask_row(name, now)
+        if self.link.target().listens {
+            return Ok(false);
+        }
+        match self.link.ask_row(name, now) {
+            Ok(is_asked) => Ok(is_asked),
+            Err(fault) => {
+                self.socket = None;
+                Err(fault)
+            }
+        }
     }
 
-    /// Asks a replica to acknowledge at once what it has of its master's stream, where it is open. A fault closes it.
-    #[tactic(auto, using(crate::proofs::Speech::speaks_ack))]
+    /// Asks a replica to acknowledge at once what it has of its master's stream, where it is open and takes messages. A
+    /// fault closes it.
+    #[tactic(auto, using(crate::proofs::Sessions::whole_ack, crate::proofs::Sessions::whole_fresh))]
     pub(crate) fn ask_ack(&mut self, now: u64) -> Result<(), LinkFault>
         ensures target { self.new.target ≡ self.old.target }
     {
-        self.link.ask_ack(now)
+        if self.link.target().listens {
+            return Ok(());
+        }
+        match self.link.ask_ack(now) {
+            Ok(()) => Ok(()),
+            Err(fault) => {
+                self.socket = None;
+                Err(fault)
+            }
+        }
     }
 
-    /// Sends the PING and the INFO that are due, and nothing else. A fault closes it.
-    #[tactic(auto, using(crate::proofs::Speech::speaks_alone))]
+    /// Sends the PING and the INFO that are due, and nothing else, where it takes messages. A fault closes it.
+    #[tactic(auto, using(crate::proofs::Sessions::whole_own, crate::proofs::Sessions::whole_fresh))]
     pub(crate) fn ask_due(&mut self, now: u64) -> Result<(), LinkFault>
         ensures target { self.new.target ≡ self.old.target }
     {
-        self.link.ask_due(now)
+        if self.link.target().listens {
+            return Ok(());
+        }
+        match self.link.ask_due(now) {
+            Ok(()) => Ok(()),
+            Err(fault) => {
+                self.socket = None;
+                Err(fault)
+            }
+        }
+    }
+
+    /// Writes what is unsent until it would wait: whether its socket is whole, and there is one.
+    pub(crate) fn send(&mut self) -> bool
+        ensures target { self.new.target ≡ self.old.target }
+    {
+        let Some(mut socket) = self.socket.take() else {
+            return false;
+        };
+        let is_whole = send::<J, C::Stream>(&mut self.link, &mut socket);
+        self.socket = Some(socket);
+        is_whole
+    }
+
+    /// Reads one piece, and adds what the values tell that are whole with it: how long it is. The error says why none
+    /// was taken, `NotConnected` without a socket; what the values before a fault told was added. The Sentinel may be
+    /// told all that is added. A fault closes it.
+    #[tactic(auto, using(crate::proofs::Hearing::no_more, crate::proofs::Sessions::whole_left))]
+    pub(crate) fn hear(
+        &mut self,
+        room: &mut [u8],
+        now: u64,
+        events: &mut Vec<Event>,
+    ) -> Result<usize, Unheard>
+        ensures told { (more : List Event) × (events.new.items ≡ events.old.items ++ more) × AllByRecursion (IsToldOn J.told self.old.target) more }
+        ensures target { self.new.target ≡ self.old.target }
+        ensures within { IfOk result (λ count. count ≤ length room.new) }
+    {
+        let Some(mut socket) = self.socket.take() else {
+            return Err(Unheard::Stream(ErrorKind::NotConnected));
+        };
+        match hear::<J, C::Stream>(&mut self.link, &mut socket, room, now, events) {
+            Ok(count) => {
+                self.socket = Some(socket);
+                Ok(count)
+            }
+            Err(Unheard::Stream(kind)) => {
+                self.socket = Some(socket);
+                Err(Unheard::Stream(kind))
+            }
+            Err(Unheard::Fault(fault)) => Err(Unheard::Fault(fault)),
+        }
     }
 }

@@ -4,6 +4,7 @@ ghost use Rattle.std.specs.Prelude.{◌≡◌, ℕ, true, false};
 ghost use Rattle.sentinel_runtime.specs.Running.{input_of};
 ghost use Rattle.sentinel_runtime.specs.Ticking.{Took};
 ghost use Rattle.ballot_law.specs.Limits.{IsWithinEvent};
+ghost use Rattle.sentinel_runtime.specs.Hearing.{MayTake};
 ghost use Rattle.tcp_transport.specs.Hearing.{is_lost};
 
 use crate::exchange::{Hearing, SentinelEnd, WatchState};
@@ -43,7 +44,7 @@ pub struct TickLoop<J: Which> {
     stood_still: bool,
     hellos: HelloNotes,
     replicas: ReplicaNotes,
-    later: Vec<Hearing>,
+    later: Vec<Hearing<J>>,
     has_ticked: bool,
 }
 
@@ -65,9 +66,11 @@ fn found_down(event: &Event) -> Option<u16> {
 }
 
 /// What was heard, without the name by which a replica may know its master; as it is where there is no memory.
-fn without_name(alloc: Global, event: Event) -> Event
-    requires { IsWithinEvent event }
-    ensures { IsWithinEvent result }
+fn without_name<J: Which>(alloc: Global, event: Event) -> Event
+    requires within { IsWithinEvent event }
+    requires told { MayTake J.told event }
+    ensures within { IsWithinEvent result }
+    ensures told { MayTake J.told result }
 {
     match event {
         Event::InfoRead { node, text } => {
@@ -91,7 +94,8 @@ fn hear_near<J: Which, S: ConfStore, O: Outlet<J>, R: Wait + Clock + Log>(
     outlet: &mut O,
     came: (Option<u64>, Event),
 ) -> bool
-    requires { IsWithinEvent came.1 }
+    requires within { IsWithinEvent came.1 }
+    requires told { MayTake J.told came.1 }
     ensures lost { is_lost came.0 came.1 ≡ true → (result ≡ true) × (seat.new ≡ seat.old) × (outlet.new ≡ outlet.old) }
     ensures heard { is_lost came.0 came.1 ≡ false
         → (now : ℕ) × Took member.now.cell.start seat.old.seat.view (input_of now came.1) seat.new.outbox.shown seat.new.seat.view result }
@@ -177,14 +181,15 @@ impl<J: Which> TickLoop<J> {
         seat: &mut ThreadSeat<J>,
         event: Event,
     ) -> bool
-        requires { IsWithinEvent event }
+        requires within { IsWithinEvent event }
+        requires told { MayTake J.told event }
     {
         if let Some(master) = found_down(&event) {
             seat.look_ahead(master, self.pace.tick_due);
         }
         let by = hearer(member, state.run.clock.now(rt));
         self.note_heard(&member.noting(rt), by, &event);
-        let event = without_name(self.far.alloc(), event);
+        let event = without_name::<J>(self.far.alloc(), event);
         let mut outlet = self.far.outlet(rt);
         let goes_on = hear_near(rt, state, member, seat, &mut outlet, (by.known, event));
         self.hold(rt, state, member, seat);
@@ -201,7 +206,8 @@ impl<J: Which> TickLoop<J> {
         seat: &mut ThreadSeat<J>,
         event: Event,
     ) -> bool
-        requires { IsWithinEvent event }
+        requires within { IsWithinEvent event }
+        requires told { MayTake J.told event }
     {
         if may_be_stored(&event) && self.pace.is_late(state.run.clock.now(rt)) {
             if self.later.len() < LATER_MAX {

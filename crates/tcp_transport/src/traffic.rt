@@ -1,18 +1,19 @@
-//! What is read and written on the stream of a connection.
+//! What is read and written on the socket of a connection.
 
-ghost use Rattle.std.specs.Prelude.{◌≡◌, ◌≤◌, ◌++◌, List, IfOk, IfErr, OnOk, length, take};
-ghost use Rattle.std.specs.Io.KnownBytes.{Consumes};
+ghost use Rattle.std.specs.Prelude.{◌≡◌, ◌≤◌, ◌++◌, List, IfOk, IfErr, OnOk, OnErr, length, take};
 ghost use Rattle.std.specs.List.{AllByRecursion};
 ghost use Rattle.ballot_law.specs.declared.events.Event.{Event};
-ghost use Rattle.links.specs.NodeLinks.{IsHeardOn};
-ghost use Rattle.tcp_transport.specs.Said.{SendsSaid};
+ghost use Rattle.links.specs.NodeLinks.{fresh};
+ghost use Rattle.tcp_transport.specs.Sessions.{IsWhole, Leaves};
+ghost use Rattle.tcp_transport.specs.Sockets.{IsQuiet, Gets, MayTell};
+ghost use Rattle.tcp_transport.specs.Told.{IsToldOn};
 ghost use Rattle.tcp_transport.specs.Traffic.{Sends, Hears, IsWhy};
 
-use crate::said_link::SaidLink;
+use crate::sockets::Socket;
 use ballot_law::Event;
-use links::LinkFault;
+use links::{LinkFault, NodeLink};
 use sentinel_runtime::Which;
-use std::io::{ErrorKind, Read, Write};
+use std::io::ErrorKind;
 
 /// How many bytes one read asks for.
 pub(crate) const PIECE: usize = 16_384;
@@ -28,30 +29,32 @@ pub(crate) enum Unheard {
 
 /// Writes once of what is unsent; the error says why nothing was taken.
 #[tactic(auto, using(crate::proofs::Sending::sends_nothing, crate::proofs::Sending::sends_some))]
-fn write<J: Which, T: Write>(link: &mut SaidLink<J>, stream: &mut T) -> Result<(), ErrorKind>
-    ensures sent { Sends (T.contents stream.old) (T.contents stream.new) link.old link.new }
+fn write<J: Which, S: Socket<J>>(link: &mut NodeLink, socket: &mut S) -> Result<(), ErrorKind>
+    ensures sent { Sends (S.stands socket.old) (S.stands socket.new) link.old link.new }
 {
-    match stream.write(link.as_link().unsent()) {
-        Ok(0) => Err(ErrorKind::WriteZero),
+    match socket.write(link.unsent()) {
         Ok(count) => {
             link.sent(count);
+            if count == 0 {
+                return Err(ErrorKind::WriteZero);
+            }
             Ok(())
         }
         Err(error) => Err(error.kind()),
     }
 }
 
-/// Writes what is unsent until it would wait: whether the stream is whole. What the stream gets is what was taken away
-/// of the front.
+/// Writes what is unsent until it would wait: whether the socket is whole. What was put out on it is what was taken
+/// away of the front.
 #[tactic(auto, using(crate::proofs::Sending::sends_none, crate::proofs::Sending::sends_twice))]
-fn send_unsent<J: Which, T: Write>(link: &mut SaidLink<J>, stream: &mut T) -> bool
-    ensures sent { Sends (T.contents stream.old) (T.contents stream.new) link.old link.new }
+fn send_unsent<J: Which, S: Socket<J>>(link: &mut NodeLink, socket: &mut S) -> bool
+    ensures sent { Sends (S.stands socket.old) (S.stands socket.new) link.old link.new }
 {
     for _ in 0..u64::MAX {
-        if link.as_link().unsent().is_empty() {
+        if link.unsent().is_empty() {
             return true;
         }
-        match write(link, stream) {
+        match write::<J, S>(link, socket) {
             Ok(()) | Err(ErrorKind::Interrupted) => {}
             Err(ErrorKind::WouldBlock) => return true,
             Err(_) => return false,
@@ -60,23 +63,26 @@ fn send_unsent<J: Which, T: Write>(link: &mut SaidLink<J>, stream: &mut T) -> bo
     true
 }
 
-/// Writes what is unsent until it would wait: whether the stream is whole. What the stream gets is what was taken away
-/// of the front, and stands in what may be said on this connection.
-#[tactic(auto, using(crate::proofs::Speech::sends_said))]
-pub(crate) fn send<J: Which, T: Write>(link: &mut SaidLink<J>, stream: &mut T) -> bool
-    ensures sent { Sends (T.contents stream.old) (T.contents stream.new) link.old link.new }
-    ensures said { SendsSaid J.said link.old.target (T.contents stream.old) (T.contents stream.new) }
+/// Writes what is unsent until it would wait: whether the socket is whole. What was put out on it is what was taken
+/// away of the front, so all that was put out since it was opened, and what is unsent, is what may be said on it.
+#[tactic(auto, using(crate::proofs::Sending::whole_sent))]
+pub(crate) fn send<J: Which, S: Socket<J>>(link: &mut NodeLink, socket: &mut S) -> bool
+    requires whole { IsWhole J.said (S.stands socket.old) link.old }
+    ensures sent { Sends (S.stands socket.old) (S.stands socket.new) link.old link.new }
+    ensures whole { IsWhole J.said (S.stands socket.new) link.new }
 {
-    link.speaks();
-    send_unsent(link, stream)
+    send_unsent::<J, S>(link, socket)
 }
 
 /// Reads one piece into the room: how long it is, or why none came, `UnexpectedEof` at the end of the stream.
-fn read<T: Read>(stream: &mut T, room: &mut [u8]) -> Result<usize, ErrorKind>
+#[tactic(auto, using(crate::proofs::Hearing::quiet_end))]
+fn read<J: Which, S: Socket<J>>(socket: &mut S, room: &mut [u8]) -> Result<usize, ErrorKind>
     ensures within { IfOk result (λ count. count ≤ length room.new) }
-    ensures read { IfOk result (λ count. Consumes (T.remaining stream.old) (T.remaining stream.new) (take count room.new)) }
+    ensures came { IfOk result (λ count. Gets (S.stands socket.old) (S.stands socket.new) (take count room.new)) }
+    ensures told { IfOk result (λ count. MayTell J.said J.told (S.stands socket.old) (take count room.new)) }
+    ensures err { OnErr result (IsQuiet (S.stands socket.old) (S.stands socket.new)) }
 {
-    match stream.read(room) {
+    match socket.read(room) {
         Ok(0) => Err(ErrorKind::UnexpectedEof),
         Ok(count) => Ok(count),
         Err(error) => Err(error.kind()),
@@ -84,22 +90,24 @@ fn read<T: Read>(stream: &mut T, room: &mut [u8]) -> Result<usize, ErrorKind>
 }
 
 /// Reads one piece, and adds what the values tell that are whole with it: how long it is. The error says why none was
-/// taken; what the values before a fault told was added.
+/// taken; what the values before a fault told was added. The Sentinel may be told all that is added.
 #[tactic(auto, using(crate::proofs::Hearing::heard, crate::proofs::Hearing::broken, crate::proofs::Hearing::no_more))]
-pub(crate) fn hear<J: Which, T: Read>(
-    link: &mut SaidLink<J>,
-    stream: &mut T,
+pub(crate) fn hear<J: Which, S: Socket<J>>(
+    link: &mut NodeLink,
+    socket: &mut S,
     room: &mut [u8],
     now: u64,
     events: &mut Vec<Event>,
 ) -> Result<usize, Unheard>
-    ensures hears { OnOk result (Hears (T.remaining stream.old) (T.remaining stream.new) link.old link.new events.old.items events.new.items) }
-    ensures why { IfErr result (IsWhy (T.remaining stream.old) (T.remaining stream.new) link.old events.old.items events.new.items) }
-    ensures heard_on { (more : List Event) × (events.new.items ≡ events.old.items ++ more) × AllByRecursion (IsHeardOn link.old.target) more }
+    requires whole { IsWhole J.said (S.stands socket.old) link.old }
+    ensures hears { OnOk result (Hears (S.stands socket.old) (S.stands socket.new) link.old link.new events.old.items events.new.items) }
+    ensures why { IfErr result (IsWhy (S.stands socket.old) (S.stands socket.new) link.old events.old.items events.new.items) }
+    ensures told { (more : List Event) × (events.new.items ≡ events.old.items ++ more) × AllByRecursion (IsToldOn J.told link.old.target) more }
+    ensures whole { Leaves (IsWhole J.said (S.stands socket.new) link.new) (link.new.talk ≡ fresh link.old.target) result }
     ensures target { link.new.target ≡ link.old.target }
     ensures within { IfOk result (λ count. count ≤ length room.new) }
 {
-    let count = match read(stream, room) {
+    let count = match read::<J, S>(socket, room) {
         Ok(count) => count,
         Err(kind) => return Err(Unheard::Stream(kind)),
     };

@@ -1,7 +1,7 @@
 use Rattle.sentinel_runtime.specs.Saying.{IsNoted, IsReleased}
 use Rattle.sentinel_runner.proofs.started.Life.run.Given as goal
 
--- the Sentinel has its own cell for a name, and what its stored entries release may be said in it and told of it
+-- the Sentinel has its own cell for a name, what its stored entries release may be said in it and told of it, and of what comes from outside nothing is known
 abbrev pub ghosts-run_named : goal.ghosts-run_named
 ghosts-run_named g a =
-    record { cell = a.opened.cell.id; said = IsReleased a.opened.cell.start; noted = IsNoted a.opened.cell.start }
+    record { cell = a.opened.cell.id; said = IsReleased a.opened.cell.start; noted = IsNoted a.opened.cell.start; told = λ event. Unit {0} }

@@ -1,0 +1,36 @@
+-- A connection and its socket.
+use Rattle.std.specs.Prelude.{◌≡◌, ◌⊎◌, ℕ, List, [], ◌++◌, Result, Ok, Err}
+use Rattle.ballot_law.specs.declared.addresses.Addr.{Addr}
+use Rattle.ballot_law.specs.declared.events.Event.{Event}
+use Rattle.ballot_law.specs.declared.messages.Message.{Message}
+use Rattle.links.specs.declared.sessions.questions.Question.{Question}
+use Rattle.links.specs.declared.target.Target.{Target}
+use Rattle.links.specs.NodeLinks.{State}
+use Rattle.links.specs.Sessions.Links.{Link, IsHeard}
+use Rattle.tcp_transport.specs.Said.{Speaks}
+use Rattle.tcp_transport.specs.declared.traffic.Unheard.{Unheard}
+use Rattle.tcp_transport.specs.declared.traffic.Unheard.TheVariants.{Stream, Fault}
+
+-- nothing came yet, or all that came was heard, as the answers to all that was asked
+abbrev pub IsHeardSoFar : Target → (asked : List Question) → (got : List ℕ) → Link → Type 0
+IsHeardSoFar target asked got talk = ((got ≡ []) × (talk.asked ≡ asked) × (talk.held ≡ []))
+    ⊎ ((events : List Event) × IsHeard target.node target.listens asked got events talk.asked talk.held)
+
+-- What is asked, held and unsent is what is left of all that was put out and came since the connection was opened
+pub record IsSession (said : Message → Type 0) (target : Target) (put got : List ℕ) (talk : Link) : Type 0 where
+  pub asked : List Question
+  pub speaks : Speaks said target (put ++ talk.unsent) asked
+  pub heard : IsHeardSoFar target asked got talk
+
+-- The socket of a connection is to its target's address, and the session is that of this socket from its first byte on
+pub record IsWhole (said : Message → Type 0) (stands : Addr → (put got : List ℕ) → Type 0) (s : State) : Type 0 where
+  pub put : List ℕ
+  pub got : List ℕ
+  pub socket : stands s.target.addr put got
+  pub session : IsSession said s.target put got s.talk
+
+-- what a read leaves: a fault of what came closes the connection
+abbrev pub Leaves : (whole closed : Type 0) → Result ℕ Unheard → Type 0
+Leaves whole closed (Ok count) = whole
+Leaves whole closed (Err (Stream kind)) = whole
+Leaves whole closed (Err (Fault why)) = closed
