@@ -29,7 +29,7 @@ use Rattle.sentinel_cell.specs.declared.view.View.{View}
 use Rattle.sentinel_cell.specs.Histories.{World}
 use Rattle.courteous_sessions.specs.Epochs.{heard_as}
 use Rattle.courteous_sessions.specs.Stores.{value_may_store, stores_among, IsStoreNext}
-use Rattle.courteous_sessions.specs.Visits.{Guest, guest, introduced, Tells}
+use Rattle.courteous_sessions.specs.Visits.{Guest, guest, introduced, IsUnanswered, Tells}
 use Rattle.courteous_sessions.specs.OnTheWay.{IsIdle, IsReady, IsOnTheWay, RespondsIn, Refuses, guest_of}
 use Rattle.courteous_sessions.specs.GoingOn.{IsWithin, IsCommonAhead, IsValueAhead, Stops, StepsWithin, DrainsWithin, BreaksWithin, GoesOn}
 use Rattle.courteous_sessions.proofs.Serving.{was_read, serves-push, shows_fault}
@@ -174,26 +174,68 @@ module _ (start : World) (now : ℕ) (most : ℕ) (stream : List ℕ) (g : Guest
             tells,
       )
 
-  -- a growth was refused, or a turn
-  cut_at : (more : ℕ) (held : Held) (bytes : List ℕ) (m : Guest) (fault : ServeFault) → IsWithin start now most stream g more held bytes m
-      → (fault ≡ ServeHalted) ⊎ (fault ≡ OutOfMemory) → BreaksWithin start now most stream g fault bytes
-  cut_at more held bytes m fault a (inl is) =
+  -- a growth was refused before the next value
+  memory_cut : (more : ℕ) (held : Held) (bytes : List ℕ) (m : Guest) (fault : ServeFault) → IsWithin start now most stream g more held bytes m → fault ≡ OutOfMemory
+      → BreaksWithin start now most stream g fault bytes m.party.view
+  memory_cut more held bytes m fault a is =
       let so_far = a.so_far in
-      let cut : BreaksWithin start now most stream g ServeHalted bytes =
-      (record { values = so_far.values; rest = so_far.rest; parts = so_far.parts; last = m; answers = so_far.answers }, few more held bytes m a)
+      let cut : BreaksWithin start now most stream g OutOfMemory bytes m.party.view =
+      (record { values = so_far.values; rest = so_far.rest; parts = so_far.parts; last = m; answers = so_far.answers; sees = inl refl }, few more held bytes m a)
       in
-      subst (λ (f : ServeFault). BreaksWithin start now most stream g f bytes) (sym is) cut
-  cut_at more held bytes m fault a (inr is) =
-      let so_far = a.so_far in
-      let cut : BreaksWithin start now most stream g OutOfMemory bytes =
-      (record { values = so_far.values; rest = so_far.rest; parts = so_far.parts; last = m; answers = so_far.answers }, few more held bytes m a)
-      in
-      subst (λ (f : ServeFault). BreaksWithin start now most stream g f bytes) (sym is) cut
+      subst (λ (f : ServeFault). BreaksWithin start now most stream g f bytes m.party.view) (sym is) cut
 
-  pub cut_within : (more : ℕ) (held : Held) (bytes : List ℕ) (m : Guest) (fault : ServeFault) (before unsent put : List ℕ) → unsent ≡ before ++ bytes
-      → IsWithin start now most stream g more held bytes m → (fault ≡ ServeHalted) ⊎ (fault ≡ OutOfMemory) → put ≡ unsent
-      → (text : List ℕ) × (put ≡ before ++ text) × BreaksWithin start now most stream g fault text
-  cut_within more held bytes m fault before unsent put is a why same = (bytes, same ∙ is, cut_at more held bytes m fault a why)
+  -- the next value has no answer
+  lost_at : (more : ℕ) (held : Held) (bytes : List ℕ) (m : Guest) (value : Frame) (rest : List ℕ) (fault : ServeFault) (w : View)
+      → IsWithin start now most stream g more held bytes m → value_at (bytes_in held) ≡ Ok (value, rest) → (fault ≡ ServeHalted) ⊎ (fault ≡ OutOfMemory)
+      → IsUnanswered start now m.party.view value fault w → BreaksWithin start now most stream g fault bytes w
+  lost_at more held bytes m value rest fault w a found (inl is) h =
+      let so_far = a.so_far in
+      let now_held : bytes_in held ≡ so_far.rest = ap bytes_in so_far.held_is in
+      let cut : BreaksWithin start now most stream g ServeHalted bytes w = (
+        record {
+          values = so_far.values;
+          rest = so_far.rest;
+          parts = so_far.parts;
+          last = m;
+          answers = so_far.answers;
+          sees = record {
+            value = value;
+            rest = rest;
+            parts = reads_next stream so_far.values so_far.rest value rest so_far.parts (ap value_at (sym now_held) ∙ found);
+            unanswered = subst (λ (f : ServeFault). IsUnanswered start now m.party.view value f w) is h;
+          };
+        },
+        few more held bytes m a,
+      )
+      in
+      subst (λ (f : ServeFault). BreaksWithin start now most stream g f bytes w) (sym is) cut
+  lost_at more held bytes m value rest fault w a found (inr is) h =
+      let so_far = a.so_far in
+      let now_held : bytes_in held ≡ so_far.rest = ap bytes_in so_far.held_is in
+      let cut : BreaksWithin start now most stream g OutOfMemory bytes w = (
+        record {
+          values = so_far.values;
+          rest = so_far.rest;
+          parts = so_far.parts;
+          last = m;
+          answers = so_far.answers;
+          sees = inr (record {
+            value = value;
+            rest = rest;
+            parts = reads_next stream so_far.values so_far.rest value rest so_far.parts (ap value_at (sym now_held) ∙ found);
+            unanswered = subst (λ (f : ServeFault). IsUnanswered start now m.party.view value f w) is h;
+          });
+        },
+        few more held bytes m a,
+      )
+      in
+      subst (λ (f : ServeFault). BreaksWithin start now most stream g f bytes w) (sym is) cut
+
+  pub cut_within : (more : ℕ) (held : Held) (bytes : List ℕ) (m : Guest) (value : Frame) (rest : List ℕ) (fault : ServeFault) (w : View) (before unsent put : List ℕ)
+      → unsent ≡ before ++ bytes → IsWithin start now most stream g more held bytes m → value_at (bytes_in held) ≡ Ok (value, rest)
+      → (fault ≡ ServeHalted) ⊎ (fault ≡ OutOfMemory) → IsUnanswered start now m.party.view value fault w → put ≡ unsent
+      → (text : List ℕ) × (put ≡ before ++ text) × BreaksWithin start now most stream g fault text w
+  cut_within more held bytes m value rest fault w before unsent put is a found why h same = (bytes, same ∙ is, lost_at more held bytes m value rest fault w a found why h)
 
   -- none is whole
   pub finished : (more : ℕ) (held after : Held) (bytes : List ℕ) (h : Guest) → IsWithin start now most stream g more held bytes h
@@ -233,16 +275,16 @@ module _ (start : World) (now : ℕ) (most : ℕ) (stream : List ℕ) (g : Guest
   pub refused_within : (more : ℕ) (held after : Held) (bytes : List ℕ) (m : Guest) (fault : FrameFault) (before unsent put : List ℕ) (why : ServeFault)
       → unsent ≡ before ++ bytes → IsWithin start now most stream g more held bytes m → held ≡ reading (bytes_in held) → Answers {V = Value} view held (Err fault) after
       → (line : List ℕ) × (put ≡ unsent ++ line) × Refuses fault line why
-      → (text : List ℕ) × (put ≡ before ++ text) × BreaksWithin start now most stream g why text
+      → (text : List ℕ) × (put ≡ before ++ text) × BreaksWithin start now most stream g why text m.party.view
   refused_within more held after bytes m fault before unsent put why is a open_is given (line, put_is, inl memory) = (
     bytes,
     put_is ∙ ap (λ (t : List ℕ). unsent ++ t) memory.1 ∙ append-nil unsent ∙ is,
-    cut_at more held bytes m why a (inr memory.0),
+    memory_cut more held bytes m why a memory.0,
   )
   refused_within more held after bytes m fault before unsent put why is a open_is given (line, put_is, inr shows) =
       let so_far = a.so_far in
       let now_held : bytes_in held ≡ so_far.rest = ap bytes_in so_far.held_is in
-      let refused : BreaksWithin start now most stream g (FaultyFrame fault) (bytes ++ line) = (
+      let refused : BreaksWithin start now most stream g (FaultyFrame fault) (bytes ++ line) m.party.view = (
         record {
           values = so_far.values;
           splits = (so_far.rest, so_far.parts, ap value_at (sym now_held) ∙ shows_fault start now view held fault after open_is shows.0 given);
@@ -250,13 +292,14 @@ module _ (start : World) (now : ℕ) (most : ℕ) (stream : List ℕ) (g : Guest
           bytes_are = ap (λ (t : List ℕ). bytes ++ t) shows.2;
           last = m;
           answers = so_far.answers;
+          sees = refl;
         },
         few more held bytes m a,
       )
       in (
         bytes ++ line,
         put_is ∙ ap (λ (t : List ℕ). t ++ line) is ∙ append_assoc before bytes line,
-        subst (λ (f : ServeFault). BreaksWithin start now most stream g f (bytes ++ line)) (sym shows.1) refused,
+        subst (λ (f : ServeFault). BreaksWithin start now most stream g f (bytes ++ line) m.party.view) (sym shows.1) refused,
       )
 
   -- ---- a whole piece
@@ -270,9 +313,9 @@ module _ (start : World) (now : ℕ) (most : ℕ) (stream : List ℕ) (g : Guest
   stopped next progress more held bytes h is it = subst (λ (x : Option Reach). StepsWithin start now most stream g (Ok x) more held bytes h) is it
 
   -- nothing was answered for want of memory
-  pub none_taken : (unsent : List ℕ) → (more : List ℕ) × (unsent ≡ unsent ++ more) × BreaksWithin start now most stream g OutOfMemory more
+  pub none_taken : (unsent : List ℕ) → (more : List ℕ) × (unsent ≡ unsent ++ more) × BreaksWithin start now most stream g OutOfMemory more g.party.view
   none_taken unsent =
-      ([], sym (append-nil unsent), (record { values = []; rest = stream; parts = refl; last = g; answers = (refl, refl) }, omega arith))
+      ([], sym (append-nil unsent), (record { values = []; rest = stream; parts = refl; last = g; answers = (refl, refl); sees = inl refl }, omega arith))
 
   pub was_taken : (answer : Result Reach ServeFault) (held : Held) (bytes : List ℕ) (h : Guest) → DrainsWithin start now most stream g answer held bytes h
       → GoesOn start now most stream g answer (bytes_in held) bytes h

@@ -9,4 +9,5 @@ pub mod Serving
 pub mod Stepping
 pub mod GoingOn
 pub mod Values
+pub mod Losing
 pub mod OwnWords

@@ -17,6 +17,7 @@ use Rattle.client_commands.specs.declared.courtesies.Courtesy.TheVariants.{Said}
 use Rattle.client_commands.specs.Lines.{value_at, Answers as Reads}
 use Rattle.client_commands.proofs.LineStreams.{reads_next}
 use Rattle.sentinel_core.specs.declared.serving.fault.ServeFault.{ServeFault}
+use Rattle.sentinel_core.specs.declared.serving.fault.ServeFault.TheVariants.{Halted as ServeHalted, NoMemory as OutOfMemory}
 use Rattle.sentinel_core.specs.Serving.Serving.{last_line}
 use Rattle.port_sessions.specs.Talks.{Talk, Party, party, Responds, RespondsAt}
 use Rattle.resp2.specs.declared.command.CommandFault.{CommandFault}
@@ -29,7 +30,7 @@ use Rattle.resp2.specs.Framing.Stream.{Held, reading, ended, bytes_in, Feeds}
 use Rattle.sentinel_cell.specs.declared.view.View.{View}
 use Rattle.sentinel_cell.specs.Histories.{World}
 use Rattle.courteous_sessions.specs.Epochs.{heard_as}
-use Rattle.courteous_sessions.specs.Visits.{Guest, guest, turn_in, channel_turn, is_confined, confined, Answers, Serves, ServesBy, ServesBesideBy, ServesBeside, ServesIn, Tells, ServesAll, IsAnswered, IsRefused, IsCut, Breaks, Receives}
+use Rattle.courteous_sessions.specs.Visits.{Guest, guest, turn_in, channel_turn, is_confined, confined, Answers, Serves, ServesBy, ServesBesideBy, ServesBeside, ServesIn, Tells, ServesAll, IsAnswered, IsUnanswered, IsRefused, Breaks, Receives}
 use Rattle.courteous_sessions.specs.OnTheWay.{AnswersBeside, IsIdle, IsReady, IsOnTheWay, IsDone, Steps, Drains, Refuses, guest_of}
 
 -- ---- what the reading of a value and an attendant's turn say
@@ -325,11 +326,52 @@ module _ (start : World) (now : ℕ) where
 
   -- a growth was refused, or a turn, before the next answer
   pub cut_here : (stream : List ℕ) (g : Guest) (held : Held) (bytes : List ℕ) (m : Guest) → IsOnTheWay start now stream g held bytes m
-      → IsCut start now stream g bytes
-  cut_here stream g held bytes m a = record { values = a.values; rest = a.rest; parts = a.parts; last = m; answers = a.answers }
+      → Breaks start now stream g OutOfMemory bytes m.party.view
+  cut_here stream g held bytes m a = record { values = a.values; rest = a.rest; parts = a.parts; last = m; answers = a.answers; sees = inl refl }
+
+  -- the next value has no answer
+  pub lost_here : (stream : List ℕ) (g : Guest) (held : Held) (bytes : List ℕ) (m : Guest) (value : Frame) (rest : List ℕ) (fault : ServeFault) (w : View)
+      → IsOnTheWay start now stream g held bytes m → value_at (bytes_in held) ≡ Ok (value, rest) → (fault ≡ ServeHalted) ⊎ (fault ≡ OutOfMemory)
+      → IsUnanswered start now m.party.view value fault w → Breaks start now stream g fault bytes w
+  lost_here stream g held bytes m value rest fault w a found (inl is) h =
+      let now_held : bytes_in held ≡ a.rest = ap bytes_in a.held_is in
+      let cut : Breaks start now stream g ServeHalted bytes w =
+      record {
+        values = a.values;
+        rest = a.rest;
+        parts = a.parts;
+        last = m;
+        answers = a.answers;
+        sees = record {
+          value = value;
+          rest = rest;
+          parts = reads_next stream a.values a.rest value rest a.parts (ap value_at (sym now_held) ∙ found);
+          unanswered = subst (λ (f : ServeFault). IsUnanswered start now m.party.view value f w) is h;
+        };
+      }
+      in
+      subst (λ (f : ServeFault). Breaks start now stream g f bytes w) (sym is) cut
+  lost_here stream g held bytes m value rest fault w a found (inr is) h =
+      let now_held : bytes_in held ≡ a.rest = ap bytes_in a.held_is in
+      let cut : Breaks start now stream g OutOfMemory bytes w =
+      record {
+        values = a.values;
+        rest = a.rest;
+        parts = a.parts;
+        last = m;
+        answers = a.answers;
+        sees = inr (record {
+          value = value;
+          rest = rest;
+          parts = reads_next stream a.values a.rest value rest a.parts (ap value_at (sym now_held) ∙ found);
+          unanswered = subst (λ (f : ServeFault). IsUnanswered start now m.party.view value f w) is h;
+        });
+      }
+      in
+      subst (λ (f : ServeFault). Breaks start now stream g f bytes w) (sym is) cut
 
   faulty : (stream : List ℕ) (g : Guest) (held : Held) (bytes : List ℕ) (m : Guest) (fault : FrameFault) (line : List ℕ) → IsOnTheWay start now stream g held bytes m
-      → value_at (bytes_in held) ≡ Err (Faulty fault) → line ≡ last_line → IsRefused start now stream fault g (bytes ++ line)
+      → value_at (bytes_in held) ≡ Err (Faulty fault) → line ≡ last_line → IsRefused start now stream fault g (bytes ++ line) m.party.view
   faulty stream g held bytes m fault line a shows is =
       let now_held : bytes_in held ≡ a.rest = ap bytes_in a.held_is in
       record {
@@ -339,6 +381,7 @@ module _ (start : World) (now : ℕ) where
         bytes_are = ap (λ (t : List ℕ). bytes ++ t) is;
         last = m;
         answers = a.answers;
+        sees = refl;
       }
 
   pub shows_fault : {V : Type 0} (view : V → Frame) (held : Held) (fault : FrameFault) (after : Held) → held ≡ reading (bytes_in held) → fault ≢ NoMemory
@@ -356,13 +399,13 @@ module _ (start : World) (now : ℕ) where
   -- a fault shows after the values that were answered
   pub refused : {V : Type 0} (view : V → Frame) (stream : List ℕ) (g : Guest) (held : Held) (bytes : List ℕ) (m : Guest) (fault : FrameFault) (after : Held) (line : List ℕ)
       (why : ServeFault) → IsOnTheWay start now stream g held bytes m → held ≡ reading (bytes_in held) → Reads view held (Err fault) after
-      → Refuses fault line why → Breaks start now stream g why (bytes ++ line)
+      → Refuses fault line why → Breaks start now stream g why (bytes ++ line) m.party.view
   refused view stream g held bytes m fault after line why a is given (inl memory) =
-      subst (λ (f : ServeFault). Breaks start now stream g f (bytes ++ line)) (sym memory.0)
-      (subst (λ (t : List ℕ). IsCut start now stream g t) (sym (append-nil bytes) ∙ ap (λ (t : List ℕ). bytes ++ t) (sym memory.1))
+      subst (λ (f : ServeFault). Breaks start now stream g f (bytes ++ line) m.party.view) (sym memory.0)
+      (subst (λ (t : List ℕ). Breaks start now stream g OutOfMemory t m.party.view) (sym (append-nil bytes) ∙ ap (λ (t : List ℕ). bytes ++ t) (sym memory.1))
       (cut_here stream g held bytes m a))
   refused view stream g held bytes m fault after line why a is given (inr shows) =
-      subst (λ (f : ServeFault). Breaks start now stream g f (bytes ++ line)) (sym shows.1)
+      subst (λ (f : ServeFault). Breaks start now stream g f (bytes ++ line) m.party.view) (sym shows.1)
       (faulty stream g held bytes m fault line a (shows_fault view held fault after is shows.0 given) shows.2)
 
   -- ---- a whole piece

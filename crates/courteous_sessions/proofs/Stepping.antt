@@ -84,11 +84,11 @@ pub is_behind : (n : ℕ) (unsent answered more : List ℕ) → n ≡ length uns
 is_behind n unsent answered more size is = omega (arith, size, ap length is, length-append unsent more)
 
 -- an answer that couldn't be told is gone
-pub none_told_of : {X : Type 0} (answer : Result X ServeFault) (n : ℕ) (unsent answered more given : List ℕ) → n ≡ length unsent → answered ≡ unsent ++ more
-    → OnErr answer (given ≡ take n answered) → IfErr answer (λ fault. fault ≡ OutOfMemory)
-    → IfErr answer (λ fault. ((fault ≡ Halted) ⊎ (fault ≡ OutOfMemory)) × (given ≡ unsent))
-none_told_of (Ok x) n unsent answered more given size is left fault = tt
-none_told_of (Err f) n unsent answered more given size is left fault = (inr fault, left ∙ front_again n unsent answered more size is)
+pub none_told_of : {X : Type 0} (U : ServeFault → Type 0) (answer : Result X ServeFault) (n : ℕ) (unsent answered more given : List ℕ) → U OutOfMemory → n ≡ length unsent
+    → answered ≡ unsent ++ more → OnErr answer (given ≡ take n answered) → IfErr answer (λ fault. fault ≡ OutOfMemory)
+    → IfErr answer (λ fault. ((fault ≡ Halted) ⊎ (fault ≡ OutOfMemory)) × (given ≡ unsent) × U fault)
+none_told_of U (Ok x) n unsent answered more given u size is left fault = tt
+none_told_of U (Err f) n unsent answered more given u size is left fault = (inr fault, left ∙ front_again n unsent answered more size is, subst U (sym fault) u)
 
 pub none_told_alone : {X : Type 0} (answer : Result X ServeFault) (n : ℕ) (unsent answered more given : List ℕ) → n ≡ length unsent → answered ≡ unsent ++ more
     → OnErr answer (given ≡ take n answered) → OnErr answer (given ≡ unsent)

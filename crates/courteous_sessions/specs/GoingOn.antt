@@ -16,6 +16,7 @@ use Rattle.resp2.specs.Framing.Frame.{Frame, view, HasLines}
 use Rattle.resp2.specs.Framing.Stream.{Held, reading, bytes_in, held_size}
 use Rattle.sentinel_core.specs.declared.serving.fault.ServeFault.{ServeFault}
 use Rattle.sentinel_core.specs.declared.serving.fault.ServeFault.TheVariants.{Frame as FaultyFrame, Read, Write, Halted as ServeHalted, NoMemory as OutOfMemory}
+use Rattle.sentinel_cell.specs.declared.view.View.{View}
 use Rattle.sentinel_cell.specs.Histories.{World}
 use Rattle.courteous_sessions.specs.declared.going_on.NextValue.{NextValue}
 use Rattle.courteous_sessions.specs.declared.going_on.NextValue.TheVariants.{Common, Any, PutOff, Short}
@@ -38,18 +39,18 @@ module _ (start : World) (now : ℕ) (most : ℕ) (stream : List ℕ) (g : Guest
     pub next : IsStoreNext held
 
   -- a fault came, and no more of the values that were answered may store
-  abbrev pub BreaksWithin : ServeFault → (bytes : List ℕ) → Type 0
-  BreaksWithin (FaultyFrame fault) bytes = (it : IsRefused start now stream fault g bytes) × (stores_among it.values ≤ most)
-  BreaksWithin ServeHalted bytes = (it : IsCut start now stream g bytes) × (stores_among it.values ≤ most)
-  BreaksWithin OutOfMemory bytes = (it : IsCut start now stream g bytes) × (stores_among it.values ≤ most)
-  BreaksWithin Read bytes = ⊥
-  BreaksWithin Write bytes = ⊥
+  abbrev pub BreaksWithin : ServeFault → (bytes : List ℕ) → View → Type 0
+  BreaksWithin (FaultyFrame fault) bytes w = (it : IsRefused start now stream fault g bytes w) × (stores_among it.values ≤ most)
+  BreaksWithin ServeHalted bytes w = (it : IsCut start now stream g ServeHalted bytes w) × (stores_among it.values ≤ most)
+  BreaksWithin OutOfMemory bytes w = (it : IsCut start now stream g OutOfMemory bytes w) × (stores_among it.values ≤ most)
+  BreaksWithin Read bytes w = ⊥
+  BreaksWithin Write bytes w = ⊥
 
   -- how such a call ends
   abbrev pub GoesOn : Result Reach ServeFault → (held bytes : List ℕ) → Guest → Type 0
   GoesOn (Ok Done) held bytes h = IsFinished held bytes h
   GoesOn (Ok Waits) held bytes h = IsPutOff held bytes h
-  GoesOn (Err fault) held bytes h = BreaksWithin fault bytes
+  GoesOn (Err fault) held bytes h = BreaksWithin fault bytes h.party.view
 
   -- ---- within the call
 
@@ -67,12 +68,12 @@ module _ (start : World) (now : ℕ) (most : ℕ) (stream : List ℕ) (g : Guest
   abbrev pub StepsWithin : Result (Option Reach) ServeFault → (more : ℕ) → Held → (bytes : List ℕ) → Guest → Type 0
   StepsWithin (Ok None) more held bytes h = IsWithin more held bytes h
   StepsWithin (Ok (Some progress)) more held bytes h = Stops progress held bytes h
-  StepsWithin (Err fault) more held bytes h = BreaksWithin fault bytes
+  StepsWithin (Err fault) more held bytes h = BreaksWithin fault bytes h.party.view
 
   -- how the answering of all of them ends
   abbrev pub DrainsWithin : Result Reach ServeFault → Held → (bytes : List ℕ) → Guest → Type 0
   DrainsWithin (Ok progress) held bytes h = Stops progress held bytes h
-  DrainsWithin (Err fault) held bytes h = BreaksWithin fault bytes
+  DrainsWithin (Err fault) held bytes h = BreaksWithin fault bytes h.party.view
 
 -- ---- the next value
 

@@ -118,9 +118,9 @@ module _ (start : World) (now : ℕ) where
   abbrev pub Steps : (stream : List ℕ) → Guest → Result Bool ServeFault → Held → (bytes : List ℕ) → Guest → Type 0
   Steps stream g (Ok true) held bytes h = IsOnTheWay stream g held bytes h
   Steps stream g (Ok false) held bytes h = IsDone stream g held bytes h
-  Steps stream g (Err fault) held bytes h = Breaks start now stream g fault bytes
+  Steps stream g (Err fault) held bytes h = Breaks start now stream g fault bytes h.party.view
 
   -- how the answering of all whole values ends
   abbrev pub Drains : {X : Type 0} → (stream : List ℕ) → Guest → Result X ServeFault → Held → (bytes : List ℕ) → Guest → Type 0
   Drains stream g (Ok x) held bytes h = IsDone stream g held bytes h
-  Drains stream g (Err fault) held bytes h = Breaks start now stream g fault bytes
+  Drains stream g (Err fault) held bytes h = Breaks start now stream g fault bytes h.party.view

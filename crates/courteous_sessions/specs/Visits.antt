@@ -1,5 +1,6 @@
 -- What a client is answered whose session has courtesies, and how its session ends.
-use Rattle.std.specs.Prelude.{◌≡◌, ◌++◌, ◌∷◌, ℕ, Bool, true, false, Option, None, Some, List, [], Result, Ok, Err, map, length}
+use Rattle.std.specs.Prelude.{◌≡◌, ◌⊎◌, ◌++◌, ◌∷◌, ℕ, Bool, true, false, Option, None, Some, List, [], Result, Ok, Err, map, length}
+use Rattle.ballot_law.specs.declared.commands.Command.{Command}
 use Rattle.ballot_law.specs.declared.commands.Command.TheVariants.{Masters, Subscribe}
 use Rattle.ballot_law.specs.Rosters.{MasterPlan}
 use Rattle.pubsub.specs.declared.channel.Channel.TheVariants.{SwitchMaster}
@@ -16,12 +17,14 @@ use Rattle.sentinel_core.specs.declared.serving.fault.ServeFault.{ServeFault}
 use Rattle.sentinel_core.specs.declared.serving.fault.ServeFault.TheVariants.{Frame as FaultyFrame, Read, Write, Halted, NoMemory}
 use Rattle.sentinel_core.specs.Serving.Serving.{last_line}
 use Rattle.port_sessions.specs.Notes.{none_told}
-use Rattle.port_sessions.specs.Talks.{Party, party, Responds}
+use Rattle.port_sessions.specs.Talks.{Party, party, Responds, Fails}
 use Rattle.resp2.specs.Commands.{redis_command_of}
 use Rattle.resp2.specs.declared.framing.fault.FrameFault.{FrameFault}
 use Rattle.resp2.specs.Framing.Frame.{Frame, spelling, spellings}
 use Rattle.resp2.specs.Framing.Reading.{frame_at}
 use Rattle.resp2.specs.Framing.Stream.{reading, ended}
+use Rattle.resp2.specs.declared.command.CommandFault.{CommandFault}
+use Rattle.sentinel_cell.specs.declared.view.View.{View}
 use Rattle.sentinel_cell.specs.Histories.{World}
 use Rattle.sentinel_rules.specs.Plans.{roster_of}
 use Rattle.courteous_sessions.specs.Epochs.{heard_as}
@@ -172,30 +175,58 @@ module _ (start : World) (now : ℕ) where
     pub splits : Holds stream values (reading held)
     pub answers : ServesAll g values bytes h
 
-  -- the values before a fault were answered, and then comes the line of the fault
-  pub record IsRefused (stream : List ℕ) (fault : FrameFault) (g : Guest) (bytes : List ℕ) : Type 0 where
+  -- what the session below, or one beside it, may be asked for a value: its own command as it is heard, SENTINEL MASTERS, or SUBSCRIBE
+  abbrev pub IsAskedFor : Frame → Result Command CommandFault → Type 0
+  IsAskedFor value asked = ((current : Option ℕ) × (asked ≡ heard_as current (redis_command_of value))) ⊎ ((asked ≡ Ok Masters) ⊎ (asked ≡ Ok Subscribe))
+
+  -- such a session has no answer to what it is asked, which may have been carried out: what the seat has seen before that, and then
+  abbrev pub FailsAt : View → Result Command CommandFault → ServeFault → View → Type 0
+  FailsAt v asked fault w = (listens : Option ℕ) × (listened : Option ℕ) × Fails start now (party v listens) asked fault (party w listened)
+
+  -- a value has no answer
+  pub record IsUnanswered (v : View) (value : Frame) (fault : ServeFault) (w : View) : Type 0 where
+    pub asked : Result Command CommandFault
+    pub for_it : IsAskedFor value asked
+    pub fails : FailsAt v asked fault w
+
+  -- the values before a fault were answered, and then comes the line of the fault; `w` is what the seat has seen
+  pub record IsRefused (stream : List ℕ) (fault : FrameFault) (g : Guest) (bytes : List ℕ) (w : View) : Type 0 where
     pub values : List Frame
     pub splits : Holds stream values (ended fault)
     pub text : List ℕ
     pub bytes_are : bytes ≡ text ++ last_line
     pub last : Guest
     pub answers : ServesAll g values text last
+    pub sees : w ≡ last.party.view
+
+  -- the value after these has no answer
+  pub record IsLost (stream : List ℕ) (values : List Frame) (v : View) (fault : ServeFault) (w : View) : Type 0 where
+    pub value : Frame
+    pub rest : List ℕ
+    pub parts : Reads stream (values ++ value ∷ []) rest
+    pub unanswered : IsUnanswered v value fault w
+
+  -- what the seat has seen where an answer is missing: at want of memory what the values answered before let it see, or what the next one did; else what that did
+  abbrev pub IsSeenAfter : ServeFault → (stream : List ℕ) → List Frame → View → View → Type 0
+  IsSeenAfter NoMemory stream values v w = (w ≡ v) ⊎ IsLost stream values v NoMemory w
+  IsSeenAfter fault stream values v w = IsLost stream values v fault w
 
   -- values of the stream were answered, and nothing was put out for what comes after them
-  pub record IsCut (stream : List ℕ) (g : Guest) (bytes : List ℕ) : Type 0 where
+  pub record IsCut (stream : List ℕ) (g : Guest) (fault : ServeFault) (bytes : List ℕ) (w : View) : Type 0 where
     pub values : List Frame
     pub rest : List ℕ
     pub parts : Reads stream values rest
     pub last : Guest
     pub answers : ServesAll g values bytes last
+    pub sees : IsSeenAfter fault stream values last.party.view w
 
-  abbrev pub Breaks : (stream : List ℕ) → Guest → ServeFault → (bytes : List ℕ) → Type 0
-  Breaks stream g (FaultyFrame fault) bytes = IsRefused stream fault g bytes
-  Breaks stream g Halted bytes = IsCut stream g bytes
-  Breaks stream g NoMemory bytes = IsCut stream g bytes
-  Breaks stream g Read bytes = ⊥
-  Breaks stream g Write bytes = ⊥
+  abbrev pub Breaks : (stream : List ℕ) → Guest → ServeFault → (bytes : List ℕ) → View → Type 0
+  Breaks stream g (FaultyFrame fault) bytes w = IsRefused stream fault g bytes w
+  Breaks stream g Halted bytes w = IsCut stream g Halted bytes w
+  Breaks stream g NoMemory bytes w = IsCut stream g NoMemory bytes w
+  Breaks stream g Read bytes w = ⊥
+  Breaks stream g Write bytes w = ⊥
 
   abbrev pub Receives : {X : Type 0} → (stream : List ℕ) → Guest → Result X ServeFault → (held bytes : List ℕ) → Guest → Type 0
   Receives stream g (Ok x) held bytes h = IsAnswered stream g held bytes h
-  Receives stream g (Err fault) held bytes h = Breaks stream g fault bytes
+  Receives stream g (Err fault) held bytes h = Breaks stream g fault bytes h.party.view

@@ -1,6 +1,6 @@
 //! What came from a client and what goes to it.
 
-ghost use Rattle.std.specs.Prelude.{◌≡◌, ◌⊎◌, ◌≤◌, ◌<◌, ◌++◌, ℕ, List, [], None, Some, OnOk, OnErr, IfOk, IfErr, IfSome, IsTrue, true, false, length, drop};
+ghost use Rattle.std.specs.Prelude.{Ok, ◌≡◌, ◌⊎◌, ◌≤◌, ◌<◌, ◌++◌, ℕ, List, [], None, Some, OnOk, OnErr, IfOk, IfErr, IfSome, IsTrue, true, false, length, drop};
 ghost use Rattle.pubsub.specs.Listening.{is_listening};
 ghost use Rattle.client_commands.specs.Attendants.{TakesCommon};
 ghost use Rattle.client_commands.specs.Courtesies.{Answer, is_stranger, kind_of, text_of};
@@ -14,7 +14,7 @@ ghost use Rattle.resp2.specs.Framing.Stream.{reading, held_size, bytes_in};
 ghost use Rattle.courteous_sessions.specs.Clients.{newcomer};
 ghost use Rattle.courteous_sessions.specs.Epochs.{heard_as};
 ghost use Rattle.courteous_sessions.specs.OnTheWay.{AnswersBeside, IsIdle, IsReady, IsOnTheWay, IsSameAsker, Steps, Drains, Refuses, BeginsWith, guest_of};
-ghost use Rattle.courteous_sessions.specs.Visits.{Guest, guest, is_confined, unsubscribed, channel_turn, introduced, TellsInfo, Answers, Serves, ServesBeside, Receives};
+ghost use Rattle.courteous_sessions.specs.Visits.{Guest, guest, is_confined, unsubscribed, channel_turn, introduced, TellsInfo, Answers, Serves, ServesBeside, FailsAt, IsUnanswered, Receives};
 ghost use Rattle.pubsub.specs.Answering.{other};
 
 use crate::epochs::{FarRequest, far_request, heard_as, is_plain};
@@ -320,7 +320,8 @@ impl Exchange {
         ensures told { self.new.session.told ≡ self.old.session.told }
         ensures kept { (self.new.attendant ≡ self.old.attendant) × (self.new.unsent ≡ self.old.unsent)
             × (self.new.knows_masters ≡ self.old.knows_masters) × (self.new.subscriptions ≡ self.old.subscriptions) }
-        ensures fault { IfErr result (λ fault. (fault ≡ ServeFault.Halted) ⊎ (fault ≡ ServeFault.NoMemory)) }
+        ensures fault { IfErr result (λ fault. ((fault ≡ ServeFault.Halted) ⊎ (fault ≡ ServeFault.NoMemory))
+            × FailsAt cell.now.start now seat.old.view (heard_as self.old.attendant.asker.current asked.now) fault seat.new.view) }
     {
         if is_plain(self.attendant.current(), asked) {
             ask(rt, cell, seat, now, &mut self.session, asked)?;
@@ -349,7 +350,8 @@ impl Exchange {
             (party seat.new.view self.new.session.listens)) }
         ensures told { self.new.session.told ≡ self.old.session.told }
         ensures err { OnErr result (self.new.unsent.items ≡ self.old.unsent.items) }
-        ensures fault { IfErr result (λ fault. (fault ≡ ServeFault.Halted) ⊎ (fault ≡ ServeFault.NoMemory)) }
+        ensures fault { IfErr result (λ fault. ((fault ≡ ServeFault.Halted) ⊎ (fault ≡ ServeFault.NoMemory))
+            × FailsAt cell.now.start now seat.old.view (heard_as self.old.attendant.asker.current asked.now) fault seat.new.view) }
         ensures kept { (self.new.attendant ≡ self.old.attendant) × (self.new.knows_masters ≡ self.old.knows_masters)
             × (self.new.subscriptions ≡ self.old.subscriptions) }
     {
@@ -375,7 +377,8 @@ impl Exchange {
         ensures same { IsSameAsker self.old.attendant self.new.attendant }
         ensures told { self.new.session.told ≡ self.old.session.told }
         ensures err { OnErr result (self.new.unsent.items ≡ self.old.unsent.items) }
-        ensures fault { IfErr result (λ fault. (fault ≡ ServeFault.Halted) ⊎ (fault ≡ ServeFault.NoMemory)) }
+        ensures fault { IfErr result (λ fault. ((fault ≡ ServeFault.Halted) ⊎ (fault ≡ ServeFault.NoMemory))
+            × FailsAt cell.now.start now seat.old.view (Ok Command.Masters) fault seat.new.view) }
         ensures kept { (self.new.knows_masters ≡ self.old.knows_masters) × (self.new.subscriptions ≡ self.old.subscriptions) }
     {
         let asked = Ok(Command::Masters);
@@ -437,7 +440,8 @@ impl Exchange {
         ensures same { IsSameAsker self.old.attendant self.new.attendant }
         ensures told { self.new.session.told ≡ self.old.session.told }
         ensures err { OnErr result (self.new.unsent.items ≡ self.old.unsent.items) }
-        ensures fault { IfErr result (λ fault. (fault ≡ ServeFault.Halted) ⊎ (fault ≡ ServeFault.NoMemory)) }
+        ensures fault { IfErr result (λ fault. ((fault ≡ ServeFault.Halted) ⊎ (fault ≡ ServeFault.NoMemory))
+            × IsUnanswered cell.now.start now seat.old.view (view value.now) fault seat.new.view) }
         ensures kept { (self.new.knows_masters ≡ self.old.knows_masters) × (self.new.subscriptions ≡ self.old.subscriptions) }
     {
         match kind {
@@ -466,7 +470,8 @@ impl Exchange {
         ensures same { IsSameAsker self.old.attendant self.new.attendant }
         ensures session { self.new.session ≡ self.old.session }
         ensures err { OnErr result (self.new.unsent.items ≡ self.old.unsent.items) }
-        ensures fault { IfErr result (λ fault. (fault ≡ ServeFault.Halted) ⊎ (fault ≡ ServeFault.NoMemory)) }
+        ensures fault { IfErr result (λ fault. ((fault ≡ ServeFault.Halted) ⊎ (fault ≡ ServeFault.NoMemory))
+            × IsUnanswered cell.now.start now seat.old.view (view value.now) fault seat.new.view) }
         ensures kept { (self.new.knows_masters ≡ self.old.knows_masters) × (self.new.subscriptions ≡ self.old.subscriptions) }
     {
         let session = mem::replace(&mut self.session, Session::new(self.alloc));
@@ -519,7 +524,8 @@ impl Exchange {
             (guest_of self.new.attendant self.new.subscriptions self.new.session seat.new.view)) }
         ensures held { OnOk result (self.new.attendant.held ≡ self.old.attendant.held) }
         ensures fault { IfErr result (λ fault. ((fault ≡ ServeFault.Halted) ⊎ (fault ≡ ServeFault.NoMemory))
-            × (self.new.unsent.items ≡ self.old.unsent.items)) }
+            × (self.new.unsent.items ≡ self.old.unsent.items)
+            × IsUnanswered cell.now.start now seat.old.view (view value.now) fault seat.new.view) }
         ensures knows { self.new.knows_masters ≡ self.old.knows_masters }
     {
         match self.attendant.attend_to(value) {
@@ -551,7 +557,8 @@ impl Exchange {
             (guest_of self.new.attendant self.new.subscriptions self.new.session seat.new.view)) }
         ensures held { OnOk result (self.new.attendant.held ≡ self.old.attendant.held) }
         ensures fault { IfErr result (λ fault. ((fault ≡ ServeFault.Halted) ⊎ (fault ≡ ServeFault.NoMemory))
-            × (self.new.unsent.items ≡ self.old.unsent.items)) }
+            × (self.new.unsent.items ≡ self.old.unsent.items)
+            × IsUnanswered cell.now.start now seat.old.view (view value.now) fault seat.new.view) }
         ensures knows { self.new.knows_masters ≡ self.old.knows_masters }
     {
         match self.attendant.attend_to(value) {

@@ -1,6 +1,6 @@
 //! To what a connection listens, and what it is told that no value of its stream asked for.
 
-ghost use Rattle.std.specs.Prelude.{◌≡◌, ◌⊎◌, ◌<◌, ◌++◌, ℕ, List, [], None, true, OnOk, OnErr, IfOk, IfErr, length};
+ghost use Rattle.std.specs.Prelude.{Ok, ◌≡◌, ◌⊎◌, ◌<◌, ◌++◌, ℕ, List, [], None, true, OnOk, OnErr, IfOk, IfErr, length};
 ghost use Rattle.ballot_law.specs.Rosters.{master_at};
 ghost use Rattle.pubsub.specs.Answering.{turn_of, text_of, listening_after};
 ghost use Rattle.pubsub.specs.Listening.{is_listening};
@@ -8,7 +8,7 @@ ghost use Rattle.port_sessions.specs.Listening.{note_text};
 ghost use Rattle.resp2.specs.Framing.Frame.{view, spellings, HasLines, IsFrame};
 ghost use Rattle.courteous_sessions.specs.Events.{event_told};
 ghost use Rattle.courteous_sessions.specs.OnTheWay.{IsIdle, IsReady, IsTuned, NotifiesBelow, TellsBelow, guest_of};
-ghost use Rattle.courteous_sessions.specs.Visits.{is_confined, channel_turn, hears_switches, switches, ServesIn};
+ghost use Rattle.courteous_sessions.specs.Visits.{is_confined, channel_turn, hears_switches, switches, ServesIn, FailsAt, IsUnanswered};
 ghost use Rattle.pubsub.specs.Telling.{told};
 ghost use Rattle.courteous_sessions.specs.Retelling.{JoinsTold};
 
@@ -92,7 +92,8 @@ impl Exchange {
         ensures attendant { self.new.attendant ≡ self.old.attendant }
         ensures unsent { self.new.unsent ≡ self.old.unsent }
         ensures kept { (self.new.knows_masters ≡ self.old.knows_masters) × (self.new.subscriptions ≡ self.old.subscriptions) }
-        ensures fault { IfErr result (λ fault. (fault ≡ ServeFault.Halted) ⊎ (fault ≡ ServeFault.NoMemory)) }
+        ensures fault { IfErr result (λ fault. ((fault ≡ ServeFault.Halted) ⊎ (fault ≡ ServeFault.NoMemory))
+            × FailsAt cell.now.start now seat.old.view (Ok Command.Subscribe) fault seat.new.view) }
     {
         if self.session.listens() {
             return Ok(());
@@ -120,7 +121,8 @@ impl Exchange {
         ensures attendant { self.new.attendant ≡ self.old.attendant }
         ensures unsent { self.new.unsent ≡ self.old.unsent }
         ensures kept { (self.new.knows_masters ≡ self.old.knows_masters) × (self.new.subscriptions ≡ self.old.subscriptions) }
-        ensures fault { IfErr result (λ fault. (fault ≡ ServeFault.Halted) ⊎ (fault ≡ ServeFault.NoMemory)) }
+        ensures fault { IfErr result (λ fault. ((fault ≡ ServeFault.Halted) ⊎ (fault ≡ ServeFault.NoMemory))
+            × FailsAt cell.now.start now seat.old.view (Ok Command.Subscribe) fault seat.new.view) }
     {
         if self.subscriptions.hears(Channel::SwitchMaster.name()) {
             return self.begin_notes(rt, cell, seat, now);
@@ -149,7 +151,8 @@ impl Exchange {
         ensures unsent { OnOk result (self.new.unsent.items ≡ self.old.unsent.items ++ answer.now) }
         ensures kept { (self.new.knows_masters ≡ self.old.knows_masters) × (self.new.subscriptions ≡ self.old.subscriptions) }
         ensures fault { IfErr result (λ fault. ((fault ≡ ServeFault.Halted) ⊎ (fault ≡ ServeFault.NoMemory))
-            × (self.new.unsent.items ≡ self.old.unsent.items)) }
+            × (self.new.unsent.items ≡ self.old.unsent.items)
+            × FailsAt cell.now.start now seat.old.view (Ok Command.Subscribe) fault seat.new.view) }
     {
         self.tune(rt, cell, seat, now)?;
         self.note_listening();
@@ -177,7 +180,8 @@ impl Exchange {
             (guest_of self.new.attendant self.new.subscriptions self.new.session seat.new.view)) }
         ensures held { OnOk result (self.new.attendant.held ≡ self.old.attendant.held) }
         ensures fault { IfErr result (λ fault. ((fault ≡ ServeFault.Halted) ⊎ (fault ≡ ServeFault.NoMemory))
-            × (self.new.unsent.items ≡ self.old.unsent.items)) }
+            × (self.new.unsent.items ≡ self.old.unsent.items)
+            × IsUnanswered cell.now.start now seat.old.view (view value.now) fault seat.new.view) }
         ensures knows { self.new.knows_masters ≡ self.old.knows_masters }
     {
         let mut answer = OutText::new(self.alloc);

@@ -5,7 +5,7 @@ ghost use Rattle.port_sessions.specs.Talks.{party, Responds};
 ghost use Rattle.ballot_law.specs.Limits.{IsWithin};
 ghost use Rattle.resp2.specs.Framing.Frame.{view};
 ghost use Rattle.courteous_sessions.specs.OnTheWay.{IsIdle, BeginsWith};
-ghost use Rattle.courteous_sessions.specs.Visits.{monitored};
+ghost use Rattle.courteous_sessions.specs.Visits.{monitored, FailsAt};
 
 use ballot_law::{Command, NoMemory, Roster};
 use client_commands::MonitoredMaster;
@@ -34,7 +34,8 @@ pub(crate) fn ask<S: ConfStore, R: Wait>(
         (party seat.new.view session.new.listens) × (session.new.held ≡ [])) }
     ensures goes_on { OnOk result (session.new.ended ≡ None) }
     ensures told { session.new.told ≡ session.old.told }
-    ensures fault { IfErr result (λ fault. (fault ≡ ServeFault.Halted) ⊎ (fault ≡ ServeFault.NoMemory)) }
+    ensures fault { IfErr result (λ fault. ((fault ≡ ServeFault.Halted) ⊎ (fault ≡ ServeFault.NoMemory))
+        × FailsAt cell.now.start now seat.old.view asked.now fault seat.new.view) }
 {
     session.answer(rt, cell, seat, now, asked)
 }

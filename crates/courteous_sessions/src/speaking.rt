@@ -7,7 +7,7 @@ ghost use Rattle.courteous_sessions.specs.Epochs.{heard_as};
 ghost use Rattle.courteous_sessions.specs.OnTheWay.{IsIdle, IsReady, RespondsIn, guest_of};
 ghost use Rattle.port_sessions.specs.Talks.{party};
 ghost use Rattle.courteous_sessions.specs.Retelling.{JoinsTold};
-ghost use Rattle.courteous_sessions.specs.Visits.{Tells};
+ghost use Rattle.courteous_sessions.specs.Visits.{Tells, FailsAt, IsUnanswered};
 
 use crate::exchange::{Exchange, put_out};
 use crate::retelling::{NULL, is_null, put_retold};
@@ -109,7 +109,8 @@ impl Exchange {
             (guest_of self.new.attendant self.new.subscriptions self.new.session seat.new.view)) }
         ensures held { OnOk result (self.new.attendant.held ≡ self.old.attendant.held) }
         ensures fault { IfErr result (λ fault. ((fault ≡ ServeFault.Halted) ⊎ (fault ≡ ServeFault.NoMemory))
-            × (self.new.unsent.items ≡ self.old.unsent.items)) }
+            × (self.new.unsent.items ≡ self.old.unsent.items)
+            × IsUnanswered cell.now.start now seat.old.view (view value.now) fault seat.new.view) }
         ensures knows { self.new.knows_masters ≡ self.old.knows_masters }
     {
         let start = self.unsent.len();
@@ -138,7 +139,8 @@ impl Exchange {
             (heard_as self.old.attendant.asker.current (Ok command)) more (party seat.new.view self.new.session.listens)) }
         ensures told { self.new.session.told ≡ self.old.session.told }
         ensures err { OnErr result (self.new.unsent.items ≡ self.old.unsent.items) }
-        ensures fault { IfErr result (λ fault. (fault ≡ ServeFault.Halted) ⊎ (fault ≡ ServeFault.NoMemory)) }
+        ensures fault { IfErr result (λ fault. ((fault ≡ ServeFault.Halted) ⊎ (fault ≡ ServeFault.NoMemory))
+            × FailsAt cell.now.start now seat.old.view (heard_as self.old.attendant.asker.current (Ok command)) fault seat.new.view) }
         ensures kept { (self.new.attendant ≡ self.old.attendant) × (self.new.knows_masters ≡ self.old.knows_masters)
             × (self.new.subscriptions ≡ self.old.subscriptions) }
     {

@@ -2,6 +2,13 @@ use Rattle.std.proofs.Common.{◌∙◌, ap, sym, subst}
 use Rattle.client_commands.specs.Attendants.{Attendance, TakesCommon}
 use Rattle.port_sessions.specs.Talks.{Talk}
 use Rattle.courteous_sessions.proofs.Stepping.{step_common}
+use Rattle.client_commands.specs.Lines.{value_at}
+use Rattle.resp2.specs.Framing.Stream.{bytes_in}
+use Rattle.resp2.proofs.Switches.{known_too}
+use Rattle.courteous_sessions.specs.Epochs.{heard_as}
+use Rattle.courteous_sessions.specs.OnTheWay.{guest_of}
+use Rattle.courteous_sessions.proofs.Serving.{lost_here}
+use Rattle.courteous_sessions.proofs.Values.{by_own}
 use Rattle.courteous_sessions.proofs.exchange.Exchange.answer_next.Goals as goal
 
 pub returns-in-Ok-clause-answered : goal.returns-in-Ok-clause-answered
@@ -21,3 +28,18 @@ pub returns-in-None-clause-answered : goal.returns-in-None-clause-answered
 returns-in-None-clause-answered g c =
     let same = c.next_common.ensures.left c.in-None.is in
     rw (same, c.next_common.ensures.session, c.next_common.ensures.unsent, c.next_common.ensures.kept.1) at c.answer_any.ensures.answered
+
+pub returns-in-Err-clause-answered : goal.returns-in-Err-clause-answered
+returns-in-Err-clause-answered g c = λ stream first bytes visitor is a.
+    let before = c.args.self.now in
+    let taken = c.in-Some.ensures.taken in
+    let current = c.next_common.new.self.attendant.asker.current in
+    let ended = c.in-Err.ensures.fault in
+    let asked = ap (heard_as current) (sym (known_too taken.value c.in-Some.command taken.asked)) in (
+      bytes,
+      c.in-Err.ensures.err ∙ ap (λ u. u.items) c.next_common.ensures.unsent ∙ is,
+      lost_here c.args.cell.now.start c.args.now stream visitor before.attendant.held bytes
+          (guest_of before.attendant before.subscriptions before.session c.args.seat.now.view) taken.value taken.rest c.in-Err.fault c.tell_common.new.seat.view a
+          (ap value_at (ap bytes_in taken.held_is) ∙ taken.found) ended.0
+          (by_own c.args.cell.now.start c.args.now taken.value current _ c.args.seat.now.view c.tell_common.new.seat.view c.in-Err.fault asked ended.1),
+    )

@@ -7,6 +7,10 @@ use Rattle.courteous_sessions.specs.OnTheWay.{guest_of}
 use Rattle.courteous_sessions.specs.Visits.{channel_turn}
 use Rattle.courteous_sessions.proofs.Serving.{other_turn, listens_on, ready_same, turn_same, served_same}
 use Rattle.courteous_sessions.proofs.Stepping.{on_ok}
+use Rattle.courteous_sessions.proofs.Losing.{subscribed_lost}
+use Rattle.std.proofs.lemmas.Result.{err_from_is_err_and}
+use Rattle.sentinel_core.specs.declared.serving.fault.ServeFault.TheVariants.{NoMemory}
+use Rattle.courteous_sessions.proofs.Losing.{gave_up}
 use Rattle.courteous_sessions.proofs.exchange.Exchange.answer_value.Goals as goal
 
 pub attend_to-requires-clause-ready : goal.attend_to-requires-clause-ready
@@ -84,3 +88,14 @@ returns-clause-served g c =
     (listens_on before.subscriptions same.subscriptions turn none c.in_ok-channel_turn.ensures.after) c.channel_turn.ensures.session
     (ap (λ u. u.items) c.channel_turn.ensures.unsent.0) served)
     c.attend_beside.ensures.served
+
+pub returns-in-Said-clause-fault : goal.returns-in-Said-clause-fault
+returns-in-Said-clause-fault g c =
+    subscribed_lost c.args.cell.now.start c.args.now c.confirm.result (view c.args.value.now) c.args.seat.now.view c.confirm.new.seat.view
+    (λ same. same ∙ ap (λ u. u.items) c.channel_turn.ensures.unsent.0) c.confirm.ensures.fault
+
+pub returns-in_err-channel_turn-clause-fault : goal.returns-in_err-channel_turn-clause-fault
+returns-in_err-channel_turn-clause-fault g c =
+    let p = err_from_is_err_and c.from_residual.result c.from_residual.ensures.1 in
+    let why : p.0 ≡ NoMemory = let q = p.2 in let s = c.in_err-channel_turn.ensures.fault in cc in
+    gave_up c.args.cell.now.start c.args.now c.from_residual.result p.0 (view c.args.value.now) c.args.seat.now.view p.1 why (ap (λ u. u.items) c.channel_turn.ensures.unsent.0)

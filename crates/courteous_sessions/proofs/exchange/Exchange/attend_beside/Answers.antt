@@ -2,6 +2,8 @@ use Rattle.std.proofs.Common.{◌∙◌}
 use Rattle.client_commands.specs.Courtesies.{courtesy, asker_after}
 use Rattle.resp2.specs.Framing.Frame.{view}
 use Rattle.courteous_sessions.proofs.Serving.{noted, answered_beside, asked_beside}
+use Rattle.std.proofs.Common.{refl}
+use Rattle.courteous_sessions.proofs.Losing.{not_begun}
 use Rattle.courteous_sessions.proofs.exchange.Exchange.attend_beside.Goals as goal
 
 pub returns-in_ok-answer_beside-in-Ok-clause-served : goal.returns-in_ok-answer_beside-in-Ok-clause-served
@@ -21,3 +23,6 @@ returns-in_ok-answer_beside-in-Ok-clause-served g c =
     (asked_beside c.args.cell.now.start c.args.now before.attendant.asker c.attend_to.new.self.asker value (courtesy before.attendant.asker value) before.unsent.items
     mid.unsent.items c.args.seat.now.view c.answer_beside.new.seat.view c.in-Ok.ensures.asker
     (c.in_ok-answer_beside-in-Ok.ensures.answered (courtesy before.attendant.asker value) c.in-Ok.ensures.kind c.in-Ok.ensures.text)))
+
+pub returns-in-Err-clause-fault : goal.returns-in-Err-clause-fault
+returns-in-Err-clause-fault g c = not_begun c.args.cell.now.start c.args.now _ (view c.args.value.now) c.args.seat.now.view refl refl

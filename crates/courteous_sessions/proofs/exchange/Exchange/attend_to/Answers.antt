@@ -3,6 +3,8 @@ use Rattle.client_commands.specs.Courtesies.{courtesy, asker_after}
 use Rattle.port_sessions.specs.Talks.{Talk}
 use Rattle.resp2.specs.Framing.Frame.{view}
 use Rattle.courteous_sessions.proofs.Serving.{noted, answered_by_others, asked_before}
+use Rattle.std.proofs.Common.{refl}
+use Rattle.courteous_sessions.proofs.Losing.{not_begun}
 use Rattle.courteous_sessions.proofs.exchange.Exchange.attend_to.Goals as goal
 
 pub returns-in_ok-answer-in-Ok-clause-served : goal.returns-in_ok-answer-in-Ok-clause-served
@@ -23,3 +25,6 @@ returns-in_ok-answer-in-Ok-clause-served g c =
     (asked_before c.args.cell.now.start c.args.now before.attendant.asker c.attend_to.new.self.asker value (courtesy before.attendant.asker value) before.unsent.items
     mid.unsent.items c.args.seat.now.view before.session mid.session c.answer.new.seat.view c.in-Ok.ensures.asker
     (c.in_ok-answer-in-Ok.ensures.answered (courtesy before.attendant.asker value) c.in-Ok.ensures.kind c.in-Ok.ensures.text)))
+
+pub returns-in-Err-clause-fault : goal.returns-in-Err-clause-fault
+returns-in-Err-clause-fault g c = not_begun c.args.cell.now.start c.args.now _ (view c.args.value.now) c.args.seat.now.view refl refl

@@ -7,7 +7,13 @@ use Rattle.courteous_sessions.specs.GoingOn.{IsCommonAhead, Stops}
 use Rattle.courteous_sessions.specs.OnTheWay.{guest_of}
 use Rattle.courteous_sessions.specs.Visits.{Guest}
 use Rattle.courteous_sessions.proofs.GoingOn.{common_within, value_within, cut_within, finished, refused_within, guest_same}
+use Rattle.client_commands.specs.Lines.{value_at}
+use Rattle.resp2.specs.Framing.Stream.{bytes_in}
+use Rattle.resp2.proofs.Switches.{known_too}
+use Rattle.courteous_sessions.specs.Epochs.{heard_as}
+use Rattle.courteous_sessions.proofs.Serving.{was_read}
 use Rattle.courteous_sessions.proofs.Stepping.{read_frame}
+use Rattle.courteous_sessions.proofs.Values.{by_own}
 use Rattle.courteous_sessions.proofs.exchange.Exchange.go_on_next.Goals as goal
 
 pub returns-in-Ok-clause-answered : goal.returns-in-Ok-clause-answered
@@ -31,9 +37,14 @@ returns-in-Ok-clause-answered g c = λ most stream first bytes visitor is a.
 pub returns-in-Ok-Common-clause-answered : goal.returns-in-Ok-Common-clause-answered
 returns-in-Ok-Common-clause-answered g c = λ most stream first bytes visitor is a.
     let before = c.args.self.now in
+    let taken = (rw c.in-Ok-Common.field-0-is at c.in-Ok-Common.ensures.ahead).taken in
+    let current = c.next_within.new.self.attendant.asker.current in
+    let ended = c.in-Err-tell_common.ensures.fault in
+    let asked = ap (heard_as current) (sym (known_too taken.value c.in-Ok-Common.command taken.asked)) in
     cut_within c.args.cell.now.start c.args.now most stream visitor c.args.limit.now.most before.attendant.held bytes
-    (guest_of before.attendant before.subscriptions before.session c.args.seat.now.view) c.in-Err-tell_common.fault first before.unsent.items
-    c.tell_common.new.self.unsent.items is a c.in-Err-tell_common.ensures.fault
+    (guest_of before.attendant before.subscriptions before.session c.args.seat.now.view) taken.value taken.rest c.in-Err-tell_common.fault c.tell_common.new.seat.view first
+    before.unsent.items c.tell_common.new.self.unsent.items is a (ap value_at (ap bytes_in taken.held_is) ∙ taken.found) ended.0
+    (by_own c.args.cell.now.start c.args.now taken.value current _ c.args.seat.now.view c.tell_common.new.seat.view c.in-Err-tell_common.fault asked ended.1)
     (c.in-Err-tell_common.ensures.err ∙ ap (λ u. u.items) c.next_within.ensures.unsent)
 
 pub tell_value-requires-clause-frame : goal.tell_value-requires-clause-frame
@@ -55,10 +66,12 @@ returns-in-Ok-tell_value-clause-answered g c = λ most stream first bytes visito
 pub returns-in-Ok-Any-clause-answered : goal.returns-in-Ok-Any-clause-answered
 returns-in-Ok-Any-clause-answered g c = λ most stream first bytes visitor is a.
     let before = c.args.self.now in
+    let ahead = rw c.in-Ok-Any.field-0-is at c.in-Ok-Any.ensures.ahead in
+    let at = was_read view before.attendant.held c.in-Ok-Any.value c.next_within.new.self.attendant.held c.requires.ready.reads ahead.given in
+    let ended = c.in-Err-tell_value.ensures.fault in
     cut_within c.args.cell.now.start c.args.now most stream visitor c.args.limit.now.most before.attendant.held bytes
-    (guest_of before.attendant before.subscriptions before.session c.args.seat.now.view) c.in-Err-tell_value.fault first before.unsent.items
-    c.tell_value.new.self.unsent.items is a c.in-Err-tell_value.ensures.fault.0
-    (c.in-Err-tell_value.ensures.fault.1 ∙ ap (λ u. u.items) c.next_within.ensures.unsent)
+    (guest_of before.attendant before.subscriptions before.session c.args.seat.now.view) (view c.in-Ok-Any.value) at.0 c.in-Err-tell_value.fault c.tell_value.new.seat.view first
+    before.unsent.items c.tell_value.new.self.unsent.items is a at.1 ended.0 ended.2 (ended.1 ∙ ap (λ u. u.items) c.next_within.ensures.unsent)
 
 pub returns-in-Ok-Short-clause-answered : goal.returns-in-Ok-Short-clause-answered
 returns-in-Ok-Short-clause-answered g c = λ most stream first bytes visitor is a.

@@ -1,5 +1,9 @@
 use Rattle.std.proofs.Common.{◌∙◌, ap, sym}
 use Rattle.courteous_sessions.proofs.Stepping.{ok_of, piece_received}
+use Rattle.std.proofs.Common.{◌++◌, [], append-nil, refl, inl}
+use Rattle.port_sessions.specs.Talks.{party}
+use Rattle.resp2.specs.Framing.Stream.{bytes_in}
+use Rattle.courteous_sessions.specs.Visits.{guest, introduced}
 use Rattle.courteous_sessions.proofs.exchange.Exchange.take_piece.Goals as goal
 
 pub returns-clause-received : goal.returns-clause-received
@@ -13,3 +17,19 @@ returns-clause-received g c =
     (ok_of c.learn_masters.result (sym c.is_err.ensures.value ∙ c.if-is_err.false) c.learn_masters.ensures.attendant) c.feed.ensures.asker
     (sym c.is_err-2.ensures.value ∙ c.if-is_err-2.false) c.feed.ensures.held (ap (λ u. u.items) c.learn_masters.ensures.unsent) c.learn_masters.ensures.session.0
     c.learn_masters.ensures.session.1 c.answer_whole.ensures.answered
+
+pub returns-then-is_err-2-clause-received : goal.returns-then-is_err-2-clause-received
+returns-then-is_err-2-clause-received g c =
+    let before = c.args.self.now in (
+      [],
+      ap (λ u. u.items) c.learn_masters.ensures.unsent ∙ sym (append-nil before.unsent.items),
+      record {
+        values = [];
+        rest = bytes_in before.attendant.held ++ c.args.piece.now;
+        parts = refl;
+        last = guest (party c.args.seat.now.view before.session.listens) before.subscriptions before.session.told
+            (introduced c.args.cell.now.start before.knows_masters before.attendant.asker);
+        answers = (refl, refl);
+        sees = inl refl;
+      },
+    )

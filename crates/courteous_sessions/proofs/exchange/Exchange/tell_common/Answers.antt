@@ -4,6 +4,7 @@ use Rattle.client_commands.specs.Attendants.{Attendance}
 use Rattle.port_sessions.specs.Talks.{party}
 use Rattle.courteous_sessions.specs.Epochs.{heard_as}
 use Rattle.courteous_sessions.proofs.Stepping.{on_ok, is_behind, none_told_alone, responds_in_two, responds_in_three}
+use Rattle.courteous_sessions.proofs.Values.{unput}
 use Rattle.courteous_sessions.proofs.exchange.Exchange.tell_common.Goals as goal
 
 pub returns-in-Two-clause-answered : goal.returns-in-Two-clause-answered
@@ -38,3 +39,10 @@ returns-in-Three-clause-err g c =
     let got = c.in_ok-hand_on.ensures.answered in
     none_told_alone c.retell_plain.result c.len-start.result c.args.self.now.unsent.items c.hand_on.new.self.unsent.items got.0 c.retell_plain.new.self.unsent.items
     c.len-start.ensures.value got.1 c.retell_plain.ensures.err
+
+pub returns-in-Three-clause-fault : goal.returns-in-Three-clause-fault
+returns-in-Three-clause-fault g c =
+    let before = c.args.self.now in
+    let got = c.in_ok-hand_on.ensures.answered in
+    unput c.args.cell.now.start c.args.now c.retell_plain.result (heard_as before.attendant.asker.current (Ok c.args.command)) c.args.seat.now.view c.hand_on.new.seat.view
+    before.session.listens c.hand_on.new.self.session.listens got.0 got.3 c.retell_plain.ensures.fault

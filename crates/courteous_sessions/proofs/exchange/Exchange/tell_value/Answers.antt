@@ -6,6 +6,9 @@ use Rattle.courteous_sessions.specs.declared.shapes.Shape.{Shape}
 use Rattle.courteous_sessions.specs.OnTheWay.{guest_of}
 use Rattle.courteous_sessions.specs.Retelling.{JoinsTold}
 use Rattle.courteous_sessions.proofs.Stepping.{on_ok, tells_in_two, tells_in_three, is_behind, none_told_of}
+use Rattle.sentinel_core.specs.declared.serving.fault.ServeFault.{ServeFault}
+use Rattle.courteous_sessions.specs.Visits.{IsUnanswered}
+use Rattle.courteous_sessions.proofs.Losing.{served_lost}
 use Rattle.courteous_sessions.proofs.exchange.Exchange.tell_value.Goals as goal
 
 pub returns-in-Two-clause-served : goal.returns-in-Two-clause-served
@@ -38,6 +41,12 @@ returns-in-Three-clause-served g c =
 
 pub returns-in-Three-clause-fault : goal.returns-in-Three-clause-fault
 returns-in-Three-clause-fault g c =
+    let before = c.args.self.now in
+    let mid = c.answer_value.new.self in
     let got = c.in_ok-answer_value.ensures.served in
-    none_told_of c.retell.result c.len-start.result c.args.self.now.unsent.items c.answer_value.new.self.unsent.items got.0 c.retell.new.self.unsent.items c.len-start.ensures.value got.1
-    c.retell.ensures.err c.retell.ensures.fault
+    let value = view c.args.value.now in
+    let lost = served_lost c.args.cell.now.start c.args.now before.attendant.asker.protocol (guest_of before.attendant before.subscriptions before.session c.args.seat.now.view) value
+    got.0 (guest_of mid.attendant mid.subscriptions mid.session c.answer_value.new.seat.view) got.3
+    in
+    none_told_of (λ (f : ServeFault). IsUnanswered c.args.cell.now.start c.args.now c.args.seat.now.view value f c.answer_value.new.seat.view) c.retell.result c.len-start.result
+    before.unsent.items mid.unsent.items got.0 c.retell.new.self.unsent.items lost c.len-start.ensures.value got.1 c.retell.ensures.err c.retell.ensures.fault
