@@ -60,6 +60,21 @@ fn answered(words: &[Vec<u8>]) -> Result<Event, Unplayed>
     })
 }
 
+/// What is heard of a node, or of the connection to it.
+fn of_node(kind: &str, node: NodeName) -> Result<Event, Unplayed>
+    ensures { IfOk result IsWithinEvent }
+{
+    let reply = match kind {
+        "refused" => return Ok(Event::Refused { node }),
+        "lost" => return Ok(Event::Disconnected { node }),
+        "pong" => PingReply::Pong,
+        "loading" => PingReply::Loading,
+        "noauth" => PingReply::Other,
+        _ => return Err(Unplayed::WrongWords),
+    };
+    Ok(Event::Pinged { node, reply })
+}
+
 /// What happens, in these words. A tick has the random number 0, and commands come from the first client of the port.
 pub(crate) fn event(alloc: Global, words: &[Vec<u8>]) -> Result<Event, Unplayed>
     ensures { IfOk result IsWithinEvent }
@@ -77,20 +92,6 @@ pub(crate) fn event(alloc: Global, words: &[Vec<u8>]) -> Result<Event, Unplayed>
             command: command(alloc, words)?,
         }),
         ("answer", words) => answered(words),
-        ("pong", [of]) => Ok(Event::Pinged {
-            node: node(of)?,
-            reply: PingReply::Pong,
-        }),
-        ("loading", [of]) => Ok(Event::Pinged {
-            node: node(of)?,
-            reply: PingReply::Loading,
-        }),
-        ("noauth", [of]) => Ok(Event::Pinged {
-            node: node(of)?,
-            reply: PingReply::Other,
-        }),
-        ("refused", [of]) => Ok(Event::Refused { node: node(of)? }),
-        ("lost", [of]) => Ok(Event::Disconnected { node: node(of)? }),
         ("info", [of, bytes]) => Ok(Event::InfoRead {
             node: node(of)?,
             text: Text::from_slice(alloc, bytes)?,
@@ -98,6 +99,7 @@ pub(crate) fn event(alloc: Global, words: &[Vec<u8>]) -> Result<Event, Unplayed>
         ("hello", [bytes]) => Ok(Event::HelloRead {
             text: Text::from_slice(alloc, bytes)?,
         }),
+        (kind, [of]) => of_node(kind, node(of)?),
         _ => Err(Unplayed::WrongWords),
     }
 }

@@ -2,13 +2,15 @@
 //! has to go well; a cell that isn't made hands back what it was to be made of. Nothing is refused when the tests run
 //! as they are; `checks/refused_memory` runs them with each allocation refused in turn.
 
-ghost use Rattle.std.specs.Prelude.{◌≡◌, IfOk, IfSome};
+ghost use Rattle.std.specs.Prelude.{◌≡◌, IfOk};
+ghost use Rattle.sentinel_outbox.specs.declared.phase.Phase.TheVariants.{Ready};
 
 use super::calls::{card, request, vote_in};
 use super::files::{Shared, file, ready, shared};
 use super::known_cell::{KnownCell, Which};
-use sentinel_cell::{ActFault, CellFault, Keeper, Reply, SharedSentinel};
+use sentinel_cell::{ActFault, CellFault, Keeper, Reply, Seat, SharedSentinel};
 use sentinel_conf::MemoryStore;
+use sentinel_core::Sentinel;
 use std::alloc::Global;
 use std::marker::Brand;
 use std::sync::Wait;
@@ -57,31 +59,40 @@ fn refused_memory_shows_nothing_and_the_next_call_is_answered(rt: HostRuntime) {
     assert!(rt; answered == Some(true));
 }
 
-/// A cell that is made once more of what the refusal hands back. None where what it is made of lacked memory; a fault
-/// where it isn't made again.
-fn made_again(alloc: Global) -> Option<Result<Shared<MemoryStore>, CellFault>>
-    ensures { IfSome result (λ made. IfOk made (λ r. r.1.cell ≡ r.0.value.id)) }
+/// A cell with its first seat.
+type Cell = (SharedSentinel<MemoryStore>, Seat);
+
+/// A cell of what a refusal handed back.
+fn of_keeper(alloc: Global, keeper: Keeper<MemoryStore>) -> Result<Cell, CellFault>
+    requires { (keeper.sentinel.phase ≡ Ready) × (keeper.store.failed ≡ 0) }
+    ensures { IfOk result (λ r. r.1.cell ≡ r.0.id) }
 {
-    let (cell, seat) = match SharedSentinel::new(alloc, ready(alloc)?, file(alloc)?, 2) {
-        Ok(made) => made,
-        Err((keeper, _)) => {
-            let Keeper { sentinel, store } = keeper;
-            match SharedSentinel::new(alloc, sentinel, store, 2) {
-                Ok(made) => made,
-                Err((_, fault)) => return Some(Err(fault)),
-            }
-        }
-    };
-    let cell = Box::new(alloc, cell).ok()?;
-    Some(Ok((cell, seat)))
+    let Keeper { sentinel, store } = keeper;
+    match SharedSentinel::new(alloc, sentinel, store, 2) {
+        Ok(made) => Ok(made),
+        Err((_, fault)) => Err(fault),
+    }
+}
+
+/// A cell of this Sentinel and its file, made once more of what the refusal hands back.
+fn made_again(alloc: Global, sentinel: Sentinel, file: MemoryStore) -> Result<Cell, CellFault>
+    requires { (sentinel.phase ≡ Ready) × (file.failed ≡ 0) }
+    ensures { IfOk result (λ r. r.1.cell ≡ r.0.id) }
+{
+    match SharedSentinel::new(alloc, sentinel, file, 2) {
+        Ok(made) => Ok(made),
+        Err((keeper, _)) => of_keeper(alloc, keeper),
+    }
 }
 
 /// Whether a cell that was made so answers as any other.
 fn is_made_again<R: Wait>(rt: &R, alloc: Global) -> Option<bool> {
-    let Ok(shared) = made_again(alloc)? else {
+    let (sentinel, file) = (ready(alloc)?, file(alloc)?);
+    let Ok((cell, seat)) = made_again(alloc, sentinel, file) else {
         return Some(false);
     };
-    is_answered_again::<Brand, R>(rt, alloc, shared)
+    let cell = Box::new(alloc, cell).ok()?;
+    is_answered_again::<Brand, R>(rt, alloc, (cell, seat))
 }
 
 #[test]
