@@ -1,9 +1,5 @@
-use Rattle.std.proofs.Common.{◌≡◌, ◌∙◌, ◌+◌, ap, subst, sym}
+use Rattle.std.proofs.Common.{ap}
 use Rattle.client_commands.specs.Attendants.{Attendance}
-use Rattle.port_sessions.specs.Stores.{may_store, one_if}
-use Rattle.resp2.specs.declared.command.CommandFault.{CommandFault}
-use Rattle.ballot_law.specs.declared.commands.Command.{Command}
-use Rattle.resp2.specs.Framing.Frame.{view}
 use Rattle.courteous_sessions.proofs.GoingOn.{value_is_ahead}
 use Rattle.courteous_sessions.proofs.exchange.Exchange.value_ahead.Goals as goal
 
