@@ -42,8 +42,8 @@ use std::sync::{Mutex, Wait};
 /// What stands for no reading of the clock: it is above each of them.
 const NOT_TILTED: u64 = u64::MAX;
 
-/// Which Sentinel it is, what may be said in its name, which of its notes may be told, with how many calls stand before,
-/// and what it may be told. Only proofs read it.
+/// Which Sentinel it is; what may be said in its name, which of its notes may be told, each with how many calls stand
+/// before it; and what it may be told itself. Only proofs read it.
 pub trait Which {
     ghost use Rattle.std.specs.Prelude.{ℕ};
     ghost use Rattle.atomic_table.specs.Seated.{TableId};

@@ -3,6 +3,7 @@
 //! What is decided without a socket is in `links`, what is asked and heard on a connection in `links`. `Connections`
 //! are all connections, which one thread has; `TickLoop` are the ticks of the Sentinel and what it hears, which another
 //! has, so that a store doesn't stop the connections. Their ends are made together, by `PlannedConnections::named`.
+//! Sockets are a type parameter, `Connects`, which `NetSockets`, those of the system, meet.
 #![tactic(auto)]
 
 mod connections;
