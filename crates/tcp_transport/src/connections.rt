@@ -13,7 +13,8 @@ use crate::sockets::Connects;
 use crate::traffic::PIECE;
 use ballot_law::{Body, Event, Message, NodeName, Roster};
 use links::{
-    Login, RecentFaults, Target, TickSchedule, connection_count, ping_each, place_of, target_at,
+    KEEP_MS, Login, REST_MS, RecentFaults, Target, TickSchedule, connection_count, ping_each,
+    place_of, target_at,
 };
 use log::Log;
 use mio::{Events, Poll, Token};
@@ -30,13 +31,6 @@ use std::time::Duration;
 
 /// How many connections the system tells of at once.
 const EVENTS: usize = 256;
-
-/// How long it is between two times at which connections are opened and given up, in milliseconds.
-const KEEP_MS: u64 = 100;
-
-/// How long the connections rest after each turn, in milliseconds: answers to what was asked together are then heard
-/// together, and the Sentinel is woken once for them.
-const REST_MS: u64 = 5;
 
 /// How many messages are put out before the connections are heard again.
 const MESSAGES_MAX: u32 = 1_024;

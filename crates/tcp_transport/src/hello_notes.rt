@@ -3,19 +3,12 @@
 use crate::far_hellos::is_far_hello;
 use ballot_law::{Addr, Hello, Member, Name, Roster, RunId, SENTINELS_MAX, Text};
 use courteous_sessions::{EPOCHS_AHEAD, FarRequest};
-use links::{NO_HELLOS_MS, SilenceTimer};
+use links::{DIFFERENT_MS, NO_HELLOS_MS, STRANGERS_MS, SilenceTimer};
 use log::{Log, info, warn};
 use node_texts::read_hello;
 use std::fmt;
 use std::net::Ipv4Addr;
 use std::str::from_utf8;
-
-/// How long it is between two notes of hellos of nobody, of hellos that are too far ahead, and of such requests, in
-/// milliseconds.
-const STRANGERS_MS: u64 = 60_000;
-
-/// How long it is between two notes of one Sentinel whose file differs, in milliseconds.
-pub(crate) const DIFFERENT_MS: u64 = 600_000;
 
 /// Who hears a hello: the Sentinel at a place of the roster, at a reading of its clock, and which epoch its current one
 /// is known not to be below.

@@ -10,7 +10,10 @@ use crate::said_link::SaidLink;
 use crate::sockets::Connects;
 use crate::traffic::Unheard;
 use ballot_law::{Body, Event, NodeName, Roster};
-use links::{FLOW_MS, LinkFault, Login, RateLimit, Stage, Target, is_refusal, wants_login};
+use links::{
+    ACKS_MS, FLOW_MS, HELLO_AGAIN_MS, LOOK_MS, LinkFault, Login, RateLimit, Stage, Target,
+    is_refusal, wants_login,
+};
 use log::{Log, warn};
 use mio::{Registry, Token};
 use sentinel_runtime::Which;
@@ -22,19 +25,6 @@ use std::sync::Wait;
 
 /// How many reads a connection makes before the next one has its turn.
 const READS_MAX: u32 = 16;
-
-/// How long it is from an order to follow a master, or none, to the question what came of it, in milliseconds. The
-/// node's clients are sent away by that order, other Sentinels among them, and what comes of it is told by a hello: so
-/// they have as long to listen again.
-const LOOK_MS: u64 = 100;
-
-/// For how long a replica to which a master hands over is asked to acknowledge its stream beside each INFO, in
-/// milliseconds: a master waits for that, and a replica does it once a second by itself.
-const ACKS_MS: u64 = 2_500;
-
-/// How long after an order the last hello goes out once more, in milliseconds: the node closes its clients for it, also
-/// those that were to hear that hello, and these are back by then.
-const HELLO_AGAIN_MS: u64 = 150;
 
 /// A connection to a node, by the sockets that `C` makes. `goes_on` is whether it may have more to
 /// read, `is_ending` whether the system told of its end, `is_refused` whether the node refused who asks when it was

@@ -5,8 +5,9 @@ ghost use Rattle.ballot_law.specs.Cuts.{cut_at};
 ghost use Rattle.node_texts.specs.Infos.{after_label};
 ghost use Rattle.tcp_transport.specs.Replicas.{first_of, ip_around, replica_in};
 
-use crate::hello_notes::{DIFFERENT_MS, Seldom, Told, named};
+use crate::hello_notes::{Seldom, Told, named};
 use ballot_law::{Addr, NodeName, Roster, Text};
+use links::DIFFERENT_MS;
 use log::{Log, warn};
 use std::alloc::Global;
 use std::str::from_utf8;

@@ -3,17 +3,14 @@
 //! Hellos don't tell how many replicas and Sentinels a file names, so another Sentinel is asked for its row from time
 //! to time. The answer is read here alone and the Sentinel isn't told of it: it changes nothing but notes.
 
-use crate::hello_notes::{DIFFERENT_MS, Id, Seldom, Told, named};
+use crate::hello_notes::{Id, Seldom, Told, named};
 use ballot_law::{Member, Name, NodeName, Roster, SENTINELS_MAX};
-use links::Target;
+use links::{DIFFERENT_MS, ROW_EACH_MS, Target};
 use log::{Log, warn};
 use resp2::{Frames, Value};
 use std::alloc::Global;
 use std::fmt;
 use tokens::number_of;
-
-/// How long it is between two questions of a connection for a row, in milliseconds.
-const ROW_EACH_MS: u64 = 10_000;
 
 /// How many replicas a Sentinel knows of a master, how many other Sentinels, and its quorum.
 #[derive(Clone, Copy, PartialEq, Eq)]

@@ -12,7 +12,7 @@ use crate::far_hellos::is_lost;
 use crate::hello_notes::{Hearer, HelloNotes};
 use crate::replica_notes::ReplicaNotes;
 use ballot_law::{Event, Text};
-use links::{TickSchedule, is_gap, pause_of, turn_of, without_names};
+use links::{CATCH_UP_MS, TickSchedule, WAIT_MAX_MS, is_gap, pause_of, turn_of, without_names};
 use log::Log;
 use sentinel_conf::ConfStore;
 use sentinel_runtime::{Outlet, RunFault, RunningSentinel, ThreadSeat, Ticker, Which, hear};
@@ -21,17 +21,11 @@ use std::rt::Clock;
 use std::sync::Wait;
 use std::sync::atomic::Ordering;
 
-/// How long a Sentinel hears after it or its connections stood still, before it ticks again, in milliseconds.
-const CATCH_UP_MS: u64 = 150;
-
 /// How many events it hears at once before it looks at its clock.
 const EVENTS_MAX: u32 = 1_024;
 
 /// How many events it keeps for later at most.
 const LATER_MAX: usize = 4_096;
-
-/// How long it waits for an event at most before it looks at its clock, in milliseconds.
-const WAIT_MAX_MS: u64 = 100;
 
 /// When a Sentinel ticks, and what its ticks showed. One thread has them, with its end of the connections.
 /// `stood_still` is whether it stood still since its last ticks, and `later` has what it hears only after the next
