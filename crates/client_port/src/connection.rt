@@ -48,7 +48,7 @@ pub(crate) struct Origin {
 /// of the turn that read its last byte, or of when it came. `counted` is how many bytes were unsent when that was
 /// looked at last.
 #[derive(Drop)]
-pub(crate) struct Connection<T: Read + Write + Drop> {
+pub(crate) struct Connection<T: Drop> {
     stream: T,
     session: ClientSession,
     readable: bool,
@@ -70,7 +70,7 @@ fn is_put_off(progress: &Result<Reach, ServeFault>) -> bool
     }
 }
 
-impl<T: Read + Write + Drop> Connection<T> {
+impl<T: Drop> Connection<T> {
     /// A connection from which nothing was read, with a session to which no bytes came.
     pub(crate) fn new(stream: T, session: ClientSession, origin: Origin) -> Connection<T> {
         Connection {
@@ -225,7 +225,9 @@ impl<T: Read + Write + Drop> Connection<T> {
     {
         self.ends && self.session.unsent().is_empty()
     }
+}
 
+impl<T: Write + Drop> Connection<T> {
     /// Writes once of what is unsent; the error says why nothing was taken.
     #[tactic(auto, using(crate::proofs::Sends::sent_none, crate::proofs::Sends::sent_some))]
     fn write(&mut self) -> Result<(), ErrorKind>
@@ -294,7 +296,10 @@ impl<T: Read + Write + Drop> Connection<T> {
         }
         !is_told || self.send()
     }
+}
 
+/// What reads and answers can't write: its client gets what its session puts out, by `send` alone.
+impl<T: Read + Drop> Connection<T> {
     /// Reads once, in the turn that began at this reading of the clock: whether the connection is whole. A read that
     /// leaves room has read all that there was, unless the stream has ended.
     #[tactic(auto, using(crate::proofs::Sends::consumes_nothing))]
