@@ -214,9 +214,9 @@ fn opened_of<S: ConfStore + Drop>(
 }
 
 impl<S: ConfStore + Drop> Watch<S> {
-    /// Opens the Sentinel of the conf that its store held at clock 0, and its port; no connection is opened yet. What the
-    /// conf keeps is stored once its port is had, which is served after that: where the port can't be had the store is
-    /// as it was.
+    /// Opens the Sentinel of the conf that its store holds at clock 0, and its port; no connection is opened yet. What
+    /// the conf keeps is stored once its port is had, which is served after that: where the port can't be had the store
+    /// is as it was.
     ///
     /// `Halted` where the store refuses that, `PortRefused` where a port can't be had, or would have to want a password
     /// of clients by a strict profile, which asks nobody for one, and `NoMemory`: `NotOneRoster` never comes.
@@ -303,9 +303,9 @@ fn ended(state: &RunState, is_here: bool) -> Result<(), GroupFault>
     Err(GroupFault::NoMemory)
 }
 
-/// Runs the threads of a Sentinel that has a name for proofs, until all have ended; this one has the connections, since a
-/// thread that is started gets no handle for sockets. What is left of it then; none where a thread or its room couldn't
-/// be made.
+/// Runs the threads of a Sentinel that has a name for proofs, until all have ended; this one has the connections, since
+/// a thread that is started gets no handle for sockets. What is left of it then; none where a thread or its room
+/// couldn't be made.
 fn run_named<J: Which + Send + Sync, S: ConfStore + Drop + Send, R, N: Net>(
     rt: &R,
     net: &N,
