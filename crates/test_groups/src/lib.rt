@@ -1,6 +1,5 @@
-//! Tests of what runs: what a client of a port is answered, that the Sentinels of a group talk and don't wait for one
-//! another's stores, that two Sentinels of `watch` elect one of them and tell the new address, and the ports of data
-//! nodes.
+//! Tests of a group that runs: what a client of a port is answered, which confs are no group, that its Sentinels talk,
+//! and that they don't wait for one another's stores.
 #![tactic(auto)]
 
 #[cfg(test)]

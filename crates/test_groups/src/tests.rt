@@ -2,13 +2,11 @@
 
 mod clients;
 mod confs;
-mod node_ports;
+mod groups;
 mod note_queues;
 mod orders;
 mod outlets;
-mod played_replica;
 mod ports;
 mod stores_held;
 mod talks;
 mod told_files;
-mod watches;

@@ -1,12 +1,9 @@
 //! A client of a port.
 
-use crate::tests::told_files::MOST_LOOKS;
 use std::alloc::Global;
 use std::io::{self, Read, Write};
 use std::net::{Ipv4Addr, Net, SocketAddr, TcpStream};
-use std::rt::Clock;
-use std::thread;
-use std::time::Duration;
+use std::test::Fail;
 
 /// The question for the address of the master.
 pub(crate) const ADDRESS: &[u8] =
@@ -41,31 +38,15 @@ pub(crate) fn shows_down<T: Read + Write>(stream: &mut T, command: &[u8]) -> io:
     )
 }
 
-/// Waits for an answer that shows a node that is down, or one that doesn't.
-pub(crate) fn waits_for<R: Clock, T: Read + Write>(
-    rt: &R,
-    stream: &mut T,
-    command: &[u8],
-    down: bool,
-) -> io::Result<bool> {
-    for _ in 0..MOST_LOOKS {
-        if shows_down(stream, command)? == down {
-            return Ok(true);
-        }
-        thread::sleep(rt, Duration::from_millis(1));
-    }
-    Ok(false)
-}
-
 /// The request for a vote of this epoch, of three digits, by the Sentinel `dddd..`.
-pub(crate) fn vote_of(alloc: Global, epoch: u64) -> io::Result<String> {
+pub(crate) fn vote_of(alloc: Global, epoch: u64) -> Result<String, Fail> {
     Ok(format!(in alloc;
         "*6\r\n$8\r\nSENTINEL\r\n$22\r\nIS-MASTER-DOWN-BY-ADDR\r\n$9\r\n127.0.0.1\r\n$4\r\n6379\r\n$3\r\n{epoch}\r\n$40\r\ndddddddddddddddddddddddddddddddddddddddd\r\n"
     )?)
 }
 
 /// What it is answered by a Sentinel that finds no master down and has not voted in this epoch yet.
-pub(crate) fn voted_in(alloc: Global, epoch: u64) -> io::Result<String> {
+pub(crate) fn voted_in(alloc: Global, epoch: u64) -> Result<String, Fail> {
     Ok(format!(in alloc;
         "*3\r\n:0\r\n$40\r\ndddddddddddddddddddddddddddddddddddddddd\r\n:{epoch}\r\n"
     )?)

@@ -1,10 +1,13 @@
 //! A group that takes orders from an input.
 
-use crate::tests::confs::{free_port, one_alone};
+ghost use Rattle.std.specs.Prelude.{◌≡◌, All, IfSome};
+
+use crate::tests::confs::{free_port, text_of_one};
 use client_port::ReadsTimes;
 use log::kv::Source;
 use log::span::Spans;
 use log::{Level, LevelFilter, Log, Logged, Metadata, Record};
+use sentinel_conf::{Conf, MemoryStore, read};
 use sentinel_runner::{Group, OrderedFault};
 use std::alloc::Global;
 use std::fmt::Display;
@@ -113,15 +116,30 @@ impl<R: Clock> Read for Input<'_, R> {
     }
 }
 
-/// Opens a Sentinel, and runs it by the orders of the input: how it ended, none where it can't be opened.
+/// The conf of one Sentinel, and its store.
+fn one(alloc: Global, text: &str) -> Option<(Vec<Conf>, Vec<MemoryStore>)>
+    ensures { IfSome result (λ r. All (λ store. store.failed ≡ 0) r.1.items) }
+{
+    let conf = read(alloc, text.as_bytes()).ok()?;
+    let confs = vec![in alloc; conf].ok()?;
+    let store = MemoryStore::holding(alloc, text.as_bytes()).ok()?;
+    let mut stores = Vec::new(alloc);
+    stores.push(store).ok()?;
+    Some((confs, stores))
+}
+
+/// Runs a group by the orders of the input: how it ended.
 fn run_by_input<R: Threads + Wait + Net + Clock + ReadsTimes + Log + Sync>(
     rt: &R,
     alloc: Global,
     counts: &Counts,
     fails: bool,
-) -> Option<Result<(), OrderedFault>> {
-    let (confs, stores) = one_alone(alloc, free_port(rt).ok()?)?;
-    let group = Group::open(rt, alloc, confs, stores).ok()?;
+) -> Result<Result<(), OrderedFault>, Fail> {
+    let text = text_of_one(alloc, free_port(rt)?)?;
+    let (confs, stores) = one(alloc, text.as_str()).ok_or("no conf")?;
+    let Ok(group) = Group::open(rt, alloc, confs, stores) else {
+        return Err(Fail::from("no group"));
+    };
     let mut input = Input {
         rt,
         counts,
@@ -129,15 +147,15 @@ fn run_by_input<R: Threads + Wait + Net + Clock + ReadsTimes + Log + Sync>(
         fails,
     };
     let ending = AtomicU64::new(0);
-    Some(group.run_by_orders(rt, &mut input, &ending))
+    Ok(group.run_by_orders(rt, &mut input, &ending))
 }
 
 #[test]
 fn a_group_obeys_lines_to_the_end_of_its_input(rt: HostRuntime) -> Result<(), Fail> {
     let counts = Counts::none();
     let noting = Logged::new(rt, LevelFilter::Info, Counted(&counts));
-    let ended = run_by_input(&noting, rt.alloc(), &counts, false);
-    assert_eq!(rt; ended, Some(Ok(())));
+    let ended = run_by_input(&noting, rt.alloc(), &counts, false)?;
+    assert_eq!(rt; ended, Ok(()));
     assert!(rt;
         counts.infos.load(Ordering::SeqCst) > 0,
         "the order to stop the master"
@@ -154,7 +172,7 @@ fn a_group_obeys_lines_to_the_end_of_its_input(rt: HostRuntime) -> Result<(), Fa
 fn an_input_that_fails_is_told(rt: HostRuntime) -> Result<(), Fail> {
     let counts = Counts::none();
     let noting = Logged::new(rt, LevelFilter::Info, Counted(&counts));
-    let ended = run_by_input(&noting, rt.alloc(), &counts, true);
-    assert_eq!(rt; ended, Some(Err(OrderedFault::Read)));
+    let ended = run_by_input(&noting, rt.alloc(), &counts, true)?;
+    assert_eq!(rt; ended, Err(OrderedFault::Read));
     Ok(())
 }

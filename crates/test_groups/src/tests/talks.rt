@@ -2,20 +2,22 @@
 
 ghost use Rattle.std.specs.Prelude.{◌≡◌, All, IfSome};
 
-use crate::tests::clients::{MASTER, REPLICAS, SENTINELS, connected, waits_for};
-use crate::tests::confs::{Paired, free_ports};
-use crate::tests::told_files::{BothTold, ToldFile, wait_for};
+use crate::tests::clients::{MASTER, REPLICAS, SENTINELS, connected, shows_down};
+use crate::tests::confs::{Paired, both_of, free_port};
+use crate::tests::told_files::{MOST_LOOKS, Told, ToldFile, wait_for};
 use client_port::ReadsTimes;
 use log::Log;
-use sentinel_runner::{GroupFault, run_group};
+use sentinel_conf::Conf;
+use sentinel_runner::{Group, GroupFault, run_group};
 use std::alloc::Global;
 use std::io::{self, Read, Write};
 use std::net::Net;
 use std::rt::Clock;
 use std::sync::Wait;
-use std::sync::atomic::Ordering;
+use std::sync::atomic::{AtomicU64, Ordering};
 use std::test::Fail;
 use std::thread::{self, Threads};
+use std::time::Duration;
 
 /// What was seen of a group.
 #[derive(Clone, Copy, Debug, PartialEq, Eq)]
@@ -28,6 +30,22 @@ struct Seen {
     replied: (bool, bool, bool),
 }
 
+/// Waits for an answer that shows a node that is down, or one that doesn't.
+fn waits_for<R: Clock, T: Read + Write>(
+    rt: &R,
+    stream: &mut T,
+    command: &[u8],
+    down: bool,
+) -> io::Result<bool> {
+    for _ in 0..MOST_LOOKS {
+        if shows_down(stream, command)? == down {
+            return Ok(true);
+        }
+        thread::sleep(rt, Duration::from_millis(1));
+    }
+    Ok(false)
+}
+
 /// Waits until a node is down, and then until it isn't.
 fn comes_back<R: Clock, T: Read + Write>(
     rt: &R,
@@ -38,83 +56,150 @@ fn comes_back<R: Clock, T: Read + Write>(
 }
 
 /// Looks at a group by the files of its Sentinels, and by a client of the first one.
-fn look<R: Net + Clock>(rt: &R, port: u16, both: &BothTold) -> io::Result<Seen> {
-    // (its port is open once a file was written)
-    let heard = wait_for(rt, &both.first.current, 5);
-    let asked = wait_for(rt, &both.second.voted, 5);
-    let mut stream = connected(rt, port)?;
+fn look<R: Clock, T: Read + Write>(
+    rt: &R,
+    stream: &mut T,
+    first: &Told,
+    second: &Told,
+) -> io::Result<Seen> {
     Ok(Seen {
-        heard,
-        asked,
+        heard: wait_for(rt, &first.current, 5),
+        asked: wait_for(rt, &second.voted, 5),
         replied: (
-            comes_back(rt, &mut stream, SENTINELS)?,
-            comes_back(rt, &mut stream, MASTER)?,
-            comes_back(rt, &mut stream, REPLICAS)?,
+            comes_back(rt, stream, SENTINELS)?,
+            comes_back(rt, stream, MASTER)?,
+            comes_back(rt, stream, REPLICAS)?,
         ),
     })
 }
 
+/// Runs a group while it is looked at.
+fn look_beside<
+    'a,
+    R: Threads + Wait + Clock + ReadsTimes + Log + Sync,
+    T: Read + Write + Drop + Send,
+>(
+    rt: &'a R,
+    group: Group<ToldFile<'a, R>>,
+    mut stream: T,
+    first: &'a Told,
+    second: &'a Told,
+) -> (io::Result<Seen>, Result<(), GroupFault>) {
+    let ending = AtomicU64::new(0);
+    thread::join(
+        rt,
+        || {
+            let seen = look(rt, &mut stream, first, second);
+            ending.store(1, Ordering::SeqCst);
+            seen
+        },
+        || group.run(rt, &ending),
+    )
+}
+
 /// The files of two Sentinels.
-fn files<'a, R: Clock>(alloc: Global, both: &'a BothTold) -> Option<Vec<ToldFile<'a, R>>>
+fn files<'a, R: Clock>(
+    alloc: Global,
+    first: &'a Told,
+    second: &'a Told,
+) -> Option<Vec<ToldFile<'a, R>>>
     ensures { IfSome result (λ files. All (λ file. file.file.failed ≡ 0) files.items) }
 {
     let mut files = Vec::new(alloc);
     files
-        .push(ToldFile::telling(alloc, &both.first, None).ok()?)
+        .push(ToldFile::telling(alloc, first, None).ok()?)
         .ok()?;
     files
-        .push(ToldFile::telling(alloc, &both.second, None).ok()?)
+        .push(ToldFile::telling(alloc, second, None).ok()?)
         .ok()?;
     Some(files)
 }
 
-/// Runs a group until it is to end: the second Sentinel finds no node down, and knows an epoch that the first one
-/// doesn't. None where memory is refused.
-fn run<R: Threads + Wait + Net + Clock + ReadsTimes + Log + Sync>(
-    rt: &R,
-    alloc: Global,
-    ports: (u16, u16),
-    both: &BothTold,
-) -> Option<Result<(), GroupFault>> {
-    let stores: Vec<ToldFile<'_, R>> = files(alloc, both)?;
-    let one = Paired::at(ports, 50);
+#[test]
+fn group_talks(rt: HostRuntime) -> Result<(), Fail> {
+    let alloc = rt.alloc();
+    let (port, other_port) = (free_port(&rt)?, free_port(&rt)?);
+    let one = Paired::at((port, other_port), 50);
     let other = Paired {
         after_ms: 4_294_967_295,
         epoch: 5,
         ..one.counterpart()
     };
-    let confs = one.confs_beside(alloc, other)?;
-    Some(run_group(rt, alloc, confs, stores, &both.ending))
-}
-
-/// Runs a group while it is looked at: what was seen, and how it ended.
-fn look_beside<R: Threads + Wait + Net + Clock + ReadsTimes + Log + Sync>(
-    rt: &R,
-    alloc: Global,
-    ports: (u16, u16),
-) -> (io::Result<Seen>, Option<Result<(), GroupFault>>) {
-    let both = BothTold::new();
-    thread::join(
-        rt,
-        || {
-            let seen = look(rt, ports.0, &both);
-            both.ending.store(1, Ordering::SeqCst);
-            seen
-        },
-        || run(rt, alloc, ports, &both),
-    )
-}
-
-#[test]
-fn group_talks(rt: HostRuntime) -> Result<(), Fail> {
-    let ports = free_ports(&rt)?;
-    let (seen, ended) = look_beside(&rt, rt.alloc(), ports);
+    let confs = both_of(alloc, one, other).ok_or("no confs")?;
+    let (first, second) = (Told::new(), Told::new());
+    let stores = files(alloc, &first, &second).ok_or("no files")?;
+    let Ok(group) = Group::open(&rt, alloc, confs, stores) else {
+        return Err(Fail::from("no group"));
+    };
+    let stream = connected(&rt, port)?;
+    let (seen, ended) = look_beside(&rt, group, stream, &first, &second);
     let wanted = Seen {
         heard: true,
         asked: true,
         replied: (true, true, true),
     };
     assert_eq!(rt; seen?, wanted);
-    assert_eq!(rt; ended, Some(Ok(())));
+    assert_eq!(rt; ended, Ok(()));
+    Ok(())
+}
+
+/// What a group is run with: its confs, and files of which none has refused a store.
+#[derive(Drop)]
+struct Given<'a, C: Clock> {
+    confs: Vec<Conf>,
+    stores: Vec<ToldFile<'a, C>>,
+    ghost sound: { All (λ store. store.file.failed ≡ 0) stores.items },
+}
+
+impl<'a, C: Clock + Sync> Given<'a, C> {
+    /// Runs the group from its opening to its end.
+    fn run<R: Threads + Wait + Net + Clock + ReadsTimes + Log + Sync>(
+        self,
+        rt: &R,
+        alloc: Global,
+        ending: &AtomicU64,
+    ) -> Result<(), GroupFault> {
+        let Given { confs, stores } = self;
+        run_group(rt, alloc, confs, stores, ending)
+    }
+}
+
+/// Runs a group while its files are looked at, which end it: whether a hello was heard and a question asked, and how
+/// the group ended.
+fn run_beside<'a, R: Threads + Wait + Net + Clock + ReadsTimes + Log + Sync>(
+    rt: &'a R,
+    alloc: Global,
+    given: Given<'a, R>,
+    first: &'a Told,
+    second: &'a Told,
+) -> (bool, Result<(), GroupFault>) {
+    let ending = AtomicU64::new(0);
+    thread::join(
+        rt,
+        || {
+            let talked = wait_for(rt, &first.current, 5) && wait_for(rt, &second.voted, 5);
+            ending.store(1, Ordering::SeqCst);
+            talked
+        },
+        || given.run(rt, alloc, &ending),
+    )
+}
+
+#[test]
+fn run_group_talks(rt: HostRuntime) -> Result<(), Fail> {
+    let alloc = rt.alloc();
+    let one = Paired::at((free_port(&rt)?, free_port(&rt)?), 50);
+    let other = Paired {
+        after_ms: 4_294_967_295,
+        epoch: 5,
+        ..one.counterpart()
+    };
+    let confs = both_of(alloc, one, other).ok_or("no confs")?;
+    let (first, second) = (Told::new(), Told::new());
+    let stores: Vec<ToldFile<'_, HostRuntime>> = files(alloc, &first, &second).ok_or("no files")?;
+    let given = Given { confs, stores };
+    let (talked, ended) = run_beside(&rt, alloc, given, &first, &second);
+    assert!(rt; talked, "a hello and a question were heard");
+    assert_eq!(rt; ended, Ok(()));
     Ok(())
 }
