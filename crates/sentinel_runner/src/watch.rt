@@ -303,9 +303,7 @@ fn ended(state: &RunState, is_here: bool) -> Result<(), GroupFault>
     Err(GroupFault::NoMemory)
 }
 
-/// Runs the threads of a Sentinel that has a name for proofs, until all have ended; this one has the connections, since
-/// a thread that is started gets no handle for sockets. What is left of it then; none where a thread or its room
-/// couldn't be made.
+/// Runs the threads of a Sentinel that has a name for proofs, by the sockets of the system, as `run_over` does.
 fn run_named<J: Which + Send + Sync, S: ConfStore + Drop + Send, R, N: Net>(
     rt: &R,
     net: &N,
@@ -319,6 +317,26 @@ where
     requires says { (message : Message) → IsReleased watching.opened.cell.start message → ∥ J.said message ∥₁ }
     requires notes { (note : Note) (number : ℕ) → IsNoted watching.opened.cell.start note number → ∥ J.noted note number ∥₁ }
     requires told { (event : Event) → ∥ J.told event ∥₁ }
+    ensures { IfSome result (IsLeftByTurns S.held S.failure_count watching.opened.cell.start) }
+{
+    run_over::<J, S, NetSockets<'_, J, N>, R>(rt, NetSockets::of(net), state, watching, wires)
+}
+
+/// Runs the threads of a Sentinel that has a name for proofs, until all have ended; this one has the connections, since
+/// a thread that is started gets no handle for sockets. What is left of it then; none where a thread or its room
+/// couldn't be made.
+fn run_over<J: Which + Send + Sync, S: ConfStore + Drop + Send, C: Connects<J> + Drop, R>(
+    rt: &R,
+    sockets: C,
+    state: &WatchState,
+    watching: Watching<S>,
+    wires: PlannedConnections,
+) -> Option<Keeper<S>>
+where
+    R: Threads + Wait + Clock + ReadsTimes + Log + Sync,
+    requires named { watching.opened.cell.id ≡ J.cell }
+    requires says { (message : Message) → IsReleased watching.opened.cell.start message → ∥ J.said message ∥₁ }
+    requires notes { (note : Note) (number : ℕ) → IsNoted watching.opened.cell.start note number → ∥ J.noted note number ∥₁ }
     ensures { IfSome result (IsLeftByTurns S.held S.failure_count watching.opened.cell.start) }
 {
     let Watching { opened, alloc } = watching;
@@ -336,7 +354,7 @@ where
     let Ok((member, seat)) = made else {
         return none_for_want(&state.run, &state.ending);
     };
-    let (wires, far) = match wires.named::<J, NetSockets<'_, J, N>>(NetSockets::of(net)) {
+    let (wires, far) = match wires.named::<J, C>(sockets) {
         Ok(both) => both,
         Err(error) => {
             note_lost(&state.run, &error);
