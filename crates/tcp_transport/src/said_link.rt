@@ -1,10 +1,10 @@
 //! A connection of a Sentinel to a node with its socket, on which nothing goes out but what the Sentinel may say, and
 //! by which it is told nothing but what came.
 
-ghost use Rattle.std.specs.Prelude.{◌≡◌, ◌≢◌, ◌≤◌, ◌++◌, List, false, length, IfOk, OnErr, OnOk};
+ghost use Rattle.std.specs.Prelude.{◌≡◌, ◌≢◌, ◌≤◌, ◌⊎◌, ◌++◌, List, false, length, IfOk, OnErr, OnOk};
 ghost use Rattle.std.specs.List.{AllByRecursion};
 ghost use Rattle.ballot_law.specs.declared.events.Event.{Event};
-ghost use Rattle.links.specs.NodeLinks.{closed_at, asked_at};
+ghost use Rattle.links.specs.NodeLinks.{opening_at, closed_at, asked_at};
 ghost use Rattle.links.specs.declared.schedule.Stage.TheVariants.{Closed, Open};
 ghost use Rattle.tcp_transport.specs.Told.{IsToldOn};
 
@@ -105,6 +105,8 @@ impl<J: Which, C: Connects<J>> SaidLink<J, C> {
         login: Login<'_>,
         now: u64,
     )
+        ensures opened { (self.new ≡ opening_at now login.entry self.old)
+            ⊎ ((self.new ≡ closed_at now self.old) ⊎ (self.new ≡ closed_at now (opening_at now login.entry self.old))) }
         ensures target { self.new.target ≡ self.old.target }
     {
         self.socket = None;
