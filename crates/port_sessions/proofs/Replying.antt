@@ -4,7 +4,7 @@ use Rattle.std.proofs.lemmas.List.{append-nil}
 use Rattle.std.specs.Prelude.{OnOk, OnErr, IfErr}
 use Rattle.ballot_law.specs.declared.cards.Shown.{Shown}
 use Rattle.ballot_law.specs.declared.commands.Command.{Command}
-use Rattle.ballot_law.specs.declared.commands.Command.TheVariants.{Ping, IsMasterDownByAddr, GetMasterAddrByName, Masters, Master, Replicas, Sentinels, MyId, CkQuorum, Failover, FlushConfig, Subscribe}
+use Rattle.ballot_law.specs.declared.commands.Command.TheVariants.{Ping, IsMasterDownByAddr, GetMasterAddrByName, Masters, Master, Replicas, Sentinels, MyId, CkQuorum, Failover, FlushConfig, Subscribe, Info}
 use Rattle.ballot_law.specs.declared.messages.Body.{Body}
 use Rattle.ballot_law.specs.declared.messages.Body.TheVariants.{AddressAnswer}
 use Rattle.ballot_law.specs.declared.messages.Message.{Message}
@@ -62,6 +62,7 @@ module _ (start : World) (now : ℕ) where
   by_turn v (CkQuorum name) bytes w t h = h
   by_turn v FlushConfig bytes w t h = h
   by_turn v Subscribe bytes w t h = h
+  by_turn v Info bytes w t h = h
 
   pub turn_written : {X : Type 0} (v : View) (listens after : Option ℕ) (command : Command) (shown : List Output) (answer : Result X ServeFault) (text : List ℕ)
       (message : Message) (w : View)
