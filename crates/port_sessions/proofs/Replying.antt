@@ -1,15 +1,17 @@
 -- The answer to a value, and the text that it is written to.
-use Rattle.std.proofs.Common.{◌≡◌, ◌++◌, ℕ, true, List, [], Result, Ok, Err, Option, None, refl, sym, ap, ◌∙◌, subst, inl, inr, true≢false}
+use Rattle.std.proofs.Common.{◌≡◌, ◌++◌, ℕ, true, false, List, [], Result, Ok, Err, Option, None, Some, refl, sym, ap, ◌∙◌, subst, inl, inr, true≢false}
 use Rattle.std.proofs.lemmas.List.{append-nil}
 use Rattle.std.specs.Prelude.{OnOk, OnErr, IfErr}
+use Rattle.std.specs.Option.{is_some}
 use Rattle.ballot_law.specs.declared.cards.Shown.{Shown}
 use Rattle.ballot_law.specs.declared.commands.Command.{Command}
 use Rattle.ballot_law.specs.declared.commands.Command.TheVariants.{Ping, IsMasterDownByAddr, GetMasterAddrByName, Masters, Master, Replicas, Sentinels, MyId, CkQuorum, Failover, FlushConfig, Subscribe, Info}
 use Rattle.ballot_law.specs.declared.messages.Body.{Body}
 use Rattle.ballot_law.specs.declared.messages.Body.TheVariants.{AddressAnswer}
-use Rattle.ballot_law.specs.declared.messages.Message.{Message}
 use Rattle.ballot_law.specs.declared.messages.Output.{Output}
 use Rattle.node_texts.specs.Messages.MessageTexts.{message_bytes}
+use Rattle.port_answers.specs.Answers.{command_fault}
+use Rattle.resp2.specs.Framing.Frame.{spelling}
 use Rattle.sentinel_core.specs.Serving.Serving.{output_bytes}
 use Rattle.std.specs.List.{flat_map}
 use Rattle.sentinel_core.specs.declared.serving.fault.ServeFault.{ServeFault}
@@ -18,19 +20,19 @@ use Rattle.resp2.specs.declared.command.CommandFault.{CommandFault}
 use Rattle.sentinel_cell.specs.declared.view.View.{View}
 use Rattle.sentinel_cell.specs.Histories.{World}
 use Rattle.sentinel_rules.specs.Answers.{named}
-use Rattle.port_sessions.specs.Talks.{Party, party, takes_turn, listens_after, IsTold, TakesTurn, Replies, RespondsAt, Responds, Fails, Ends}
-use Rattle.port_sessions.specs.OnTheWay.{ShowsAnswer, ShowsNothing}
+use Rattle.port_sessions.specs.Listening.{answer_while_listening}
+use Rattle.port_sessions.specs.Talks.{Party, party, takes_turn, listens_after, IsTold, TakesTurn, Replies, RespondsAt, Responds, BeginsNotes, Fails, Ends}
+use Rattle.port_sessions.specs.OnTheWay.{ShowsAnswer, ShowsNothing, Turns}
 
 module _ (start : World) (now : ℕ) where
-  -- the answer was written, or it had no room
-  wrote : {X : Type 0} (p : Party) (command : Result Command CommandFault) (answer : Result X ServeFault) (text bytes : List ℕ) (q : Party)
-      → OnOk answer (text ≡ bytes) → IfErr answer (λ fault. fault ≡ OutOfMemory) → Responds start now p command bytes q → Ends start now p command answer text q
-  wrote p command (Ok x) text bytes q ok err r = subst (λ (t : List ℕ). Responds start now p command t q) (sym ok) r
-  wrote p command (Err OutOfMemory) text bytes q ok err r = inr (bytes, r)
-  wrote p command (Err ServeHalted) text bytes q ok err r = absurd (let no : ⊥ = cc in no)
-  wrote p command (Err Read) text bytes q ok err r = absurd (let no : ⊥ = cc in no)
-  wrote p command (Err Write) text bytes q ok err r = absurd (let no : ⊥ = cc in no)
-  wrote p command (Err (FaultyFrame f)) text bytes q ok err r = absurd (let no : ⊥ = cc in no)
+  -- the answer to a value joined those that aren't sent yet, or it had no room among them
+  pub put_out_ends : {X : Type 0} (p : Party) (command : Result Command CommandFault) (put : Result X ServeFault) (text before after : List ℕ)
+      (q : Party)
+      → OnOk put (after ≡ before ++ text) → OnErr put (after ≡ before) → IfErr put (λ fault. fault ≡ OutOfMemory) → Responds start now p command text q
+      → (more : List ℕ) × (after ≡ before ++ more) × Ends start now p command put more q
+  put_out_ends p command (Ok x) text before after q ok err fault r = (text, ok, r)
+  put_out_ends p command (Err f) text before after q ok err fault r =
+      ([], err ∙ sym (append-nil before), subst (λ (g : ServeFault). Fails start now p command g q) (sym fault) (inr (text, r)))
 
   -- where the session doesn't listen
   silent_one : (v : View) (listens after : Option ℕ) (command : Result Command CommandFault) (bytes : List ℕ) (w : View) → listens ≡ None → after ≡ listens_after command w
@@ -38,13 +40,32 @@ module _ (start : World) (now : ℕ) where
   silent_one v listens after command bytes w silent same r =
       subst (λ (l : Option ℕ). RespondsAt start now l v command bytes (party w after)) (sym silent) (r, same)
 
+  -- what a client is told that listens
+  pub listener_told : {X : Type 0} (v : View) (listens after : Option ℕ) (command : Result Command CommandFault) (put : Result X ServeFault) (unsent given : List ℕ)
+      → is_some listens ≡ true → after ≡ listens → OnOk put (given ≡ unsent ++ spelling (answer_while_listening command)) → OnErr put (given ≡ unsent)
+      → IfErr put (λ fault. fault ≡ OutOfMemory)
+      → (more : List ℕ) × (given ≡ unsent ++ more) × Ends start now (party v listens) command put more (party v after)
+  listener_told v None after command put unsent given is same ok err fault = absurd (true≢false (sym is))
+  listener_told v (Some entry) after command put unsent given is same ok err fault =
+      put_out_ends (party v (Some entry)) command put (spelling (answer_while_listening command)) unsent given (party v after) ok err fault (refl, ap (party v) same)
+
+  -- the answer to a value that is no command
+  pub fault_told : {X : Type 0} (v : View) (listens after : Option ℕ) (refusal : CommandFault) (put : Result X ServeFault) (unsent given : List ℕ)
+      → listens ≡ None → after ≡ listens → OnOk put (given ≡ unsent ++ spelling (command_fault refusal)) → OnErr put (given ≡ unsent)
+      → IfErr put (λ fault. fault ≡ OutOfMemory)
+      → (more : List ℕ) × (given ≡ unsent ++ more) × Ends start now (party v listens) (Err refusal) put more (party v after)
+  fault_told v listens after refusal put unsent given silent same ok err fault =
+      put_out_ends (party v listens) (Err refusal) put (spelling (command_fault refusal)) unsent given (party v after) ok err fault
+      (silent_one v listens after (Err refusal) (spelling (command_fault refusal)) v silent (same ∙ silent) (refl, refl))
+
   -- the answer to an address
-  pub told_written : {X : Type 0} (v : View) (listens : Option ℕ) (name : Option (List ℕ)) (answer : Result X ServeFault) (text : List ℕ) (told : Option Shown) (body : Body)
-      (w : View)
-      → listens ≡ None → body ≡ AddressAnswer told → OnOk answer (text ≡ message_bytes body) → IfErr answer (λ fault. fault ≡ OutOfMemory)
-      → IsTold start v (named start.plan name) told w → Ends start now (party v listens) (Ok (GetMasterAddrByName name)) answer text (party w listens)
-  told_written v listens name answer text told body w silent body_is ok err h =
-      wrote (party v listens) (Ok (GetMasterAddrByName name)) answer text (message_bytes body) (party w listens) ok err
+  pub told_written : {X : Type 0} (v : View) (listens : Option ℕ) (name : Option (List ℕ)) (put : Result X ServeFault) (unsent given : List ℕ) (told : Option Shown)
+      (body : Body) (w : View)
+      → listens ≡ None → body ≡ AddressAnswer told → OnOk put (given ≡ unsent ++ message_bytes body) → OnErr put (given ≡ unsent)
+      → IfErr put (λ fault. fault ≡ OutOfMemory) → IsTold start v (named start.plan name) told w
+      → (more : List ℕ) × (given ≡ unsent ++ more) × Ends start now (party v listens) (Ok (GetMasterAddrByName name)) put more (party w listens)
+  told_written v listens name put unsent given told body w silent body_is ok err fault h =
+      put_out_ends (party v listens) (Ok (GetMasterAddrByName name)) put (message_bytes body) unsent given (party w listens) ok err fault
       (silent_one v listens listens (Ok (GetMasterAddrByName name)) (message_bytes body) w silent silent (told, ap message_bytes body_is, h))
 
   -- a command that takes a turn is answered by what it shows
@@ -64,15 +85,15 @@ module _ (start : World) (now : ℕ) where
   by_turn v Subscribe bytes w t h = h
   by_turn v Info bytes w t h = h
 
-  pub turn_written : {X : Type 0} (v : View) (listens after : Option ℕ) (command : Command) (shown : List Output) (answer : Result X ServeFault) (text : List ℕ)
-      (message : Message) (w : View)
-      → listens ≡ None → after ≡ listens_after (Ok command) w → takes_turn command ≡ true → (h : ShowsAnswer start now v command shown w) → message ≡ h.0
-      → OnOk answer (text ≡ message_bytes message.body) → IfErr answer (λ fault. fault ≡ OutOfMemory) → Ends start now (party v listens) (Ok command) answer text (party w after)
-  turn_written v listens after command shown answer text message w silent listening t h same ok err =
-      let bytes_are : message_bytes message.body ≡ flat_map output_bytes shown =
-      ap (λ (m : Message). message_bytes m.body) same ∙ sym (append-nil (message_bytes h.0.body)) ∙ ap (flat_map output_bytes) (sym h.1) in
-      wrote (party v listens) (Ok command) answer text (message_bytes message.body) (party w after) ok err
-      (silent_one v listens after (Ok command) (message_bytes message.body) w silent listening (by_turn v command (message_bytes message.body) w t (shown, bytes_are, h.3)))
+  pub turn_written : {X : Type 0} (v : View) (listens after : Option ℕ) (command : Command) (shown : List Output) (put : Result X ServeFault) (unsent given : List ℕ) (w : View)
+      → listens ≡ None → after ≡ listens_after (Ok command) w → takes_turn command ≡ true → (h : ShowsAnswer start now v command shown w)
+      → OnOk put (given ≡ unsent ++ message_bytes h.0.body) → OnErr put (given ≡ unsent) → IfErr put (λ fault. fault ≡ OutOfMemory)
+      → (more : List ℕ) × (given ≡ unsent ++ more) × Ends start now (party v listens) (Ok command) put more (party w after)
+  turn_written v listens after command shown put unsent given w silent listening t h ok err fault =
+      let bytes = message_bytes h.0.body in
+      let bytes_are : bytes ≡ flat_map output_bytes shown = sym (append-nil bytes) ∙ ap (flat_map output_bytes) (sym h.1) in
+      put_out_ends (party v listens) (Ok command) put bytes unsent given (party w after) ok err fault
+      (silent_one v listens after (Ok command) bytes w silent listening (by_turn v command bytes w t (shown, bytes_are, h.3)))
 
   -- a turn that showed nothing
   pub turn_failed : (v : View) (listens after : Option ℕ) (command : Command) (fault : ServeFault) (w : View) → listens ≡ None → after ≡ None → takes_turn command ≡ true
@@ -84,11 +105,18 @@ module _ (start : World) (now : ℕ) where
   turn_failed v listens after command Write w silent still t h = h
   turn_failed v listens after command (FaultyFrame f) w silent still t h = h
 
-  -- the answer to a value joined those that aren't sent yet, or it had no room among them
-  pub put_out_ends : {X : Type 0} (p : Party) (command : Result Command CommandFault) (put : Result X ServeFault) (text before after : List ℕ)
-      (q : Party)
-      → OnOk put (after ≡ before ++ text) → OnErr put (after ≡ before) → IfErr put (λ fault. fault ≡ OutOfMemory) → Responds start now p command text q
-      → (more : List ℕ) × (after ≡ before ++ more) × Ends start now p command put more q
-  put_out_ends p command (Ok x) text before after q ok err fault r = (text, ok, r)
-  put_out_ends p command (Err f) text before after q ok err fault r =
-      ([], err ∙ sym (append-nil before), subst (λ (g : ServeFault). Fails start now p command g q) (sym fault) (inr (text, r)))
+  -- nothing is put out for it
+  pub turn_lost : (X : Type 0) (v : View) (listens after : Option ℕ) (command : Command) (fault : ServeFault) (unsent given : List ℕ) (w : View) → listens ≡ None → after ≡ None
+      → takes_turn command ≡ true → given ≡ unsent → ShowsNothing start now v command fault w
+      → (more : List ℕ) × (given ≡ unsent ++ more) × Ends start now {X = X} (party v listens) (Ok command) (Err fault) more (party w after)
+  turn_lost X v listens after command fault unsent given w silent still t same h =
+      ([], same ∙ sym (append-nil unsent), turn_failed v listens after command fault w silent still t h)
+
+  -- SUBSCRIBE took its turn, and its answer isn't told
+  pub subscribed_silently : {X : Type 0} (answer : Result X ServeFault) (v : View) (listens after : Option ℕ) (shown : List Output) (w : View) → is_some listens ≡ false
+      → OnOk answer (after ≡ listens_after (Ok Subscribe) w) → Turns start now v Subscribe answer shown w
+      → OnOk answer (BeginsNotes start now listens (party v listens) (party w after))
+  subscribed_silently (Ok x) v None after shown w silent listening h =
+      (flat_map output_bytes shown, silent_one v None after (Ok Subscribe) (flat_map output_bytes shown) w refl listening (shown, refl, h.3))
+  subscribed_silently (Ok x) v (Some entry) after shown w silent listening h = absurd (true≢false silent)
+  subscribed_silently (Err fault) v listens after shown w silent listening h = tt

@@ -98,13 +98,25 @@ module _ (start : World) (now : ℕ) where
   unanswered stream p held bytes m asked after q Write a given ends = absurd ends
   unanswered stream p held bytes m asked after q (FaultyFrame f) a given ends = absurd ends
 
-  -- the answer to a value had no room among those that aren't sent yet
-  pub not_put_out : (stream : List ℕ) (p : Party) (held : Held) (bytes : List ℕ) (m : Party) (asked : Result Command CommandFault) (after : Held) (text : List ℕ) (q : Party)
-      (why : ServeFault)
-      → why ≡ OutOfMemory → IsOnTheWay start now stream p held bytes m → Asks held (Ok (Some asked)) after
-      → Responds start now m asked text q → Breaks start now stream p why bytes q
-  not_put_out stream p held bytes m asked after text q why is a given r =
-      subst (λ (f : ServeFault). Breaks start now stream p f bytes q) (sym is) (unanswered stream p held bytes m asked after q OutOfMemory a given (inr (text, r)))
+  -- how the answering of a value ended
+  pub answered_on : (stream : List ℕ) (p : Party) (held : Held) (bytes : List ℕ) (m : Party) (asked : Result Command CommandFault) (after : Held)
+      (before unsent put : List ℕ) (q : Party)
+      → unsent ≡ before ++ bytes → IsOnTheWay start now stream p held bytes m → Asks held (Ok (Some asked)) after
+      → (text : List ℕ) × (put ≡ unsent ++ text) × Responds start now m asked text q
+      → (text : List ℕ) × (put ≡ before ++ text) × IsOnTheWay start now stream p after text q
+  answered_on stream p held bytes m asked after before unsent put q is a given got = (
+    bytes ++ got.0,
+    got.1 ∙ ap (λ (t : List ℕ). t ++ got.0) is ∙ append_assoc before bytes got.0,
+    value_answered stream p held bytes m asked after got.0 q a given got.2,
+  )
+
+  pub broken_on : (fault : ServeFault) (stream : List ℕ) (p : Party) (held : Held) (bytes : List ℕ) (m : Party) (asked : Result Command CommandFault) (after : Held)
+      (before unsent put : List ℕ) (q : Party)
+      → unsent ≡ before ++ bytes → IsOnTheWay start now stream p held bytes m → Asks held (Ok (Some asked)) after
+      → (text : List ℕ) × (put ≡ unsent ++ text) × Fails start now m asked fault q → put ≡ unsent
+      → (text : List ℕ) × (put ≡ before ++ text) × Breaks start now stream p fault text q
+  broken_on fault stream p held bytes m asked after before unsent put q is a given got err =
+      (bytes, err ∙ is, unanswered stream p held bytes m asked after q fault a given got.2)
 
   -- ---- a whole piece
 

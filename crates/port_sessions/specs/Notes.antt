@@ -6,10 +6,15 @@ use Rattle.ballot_law.specs.Rosters.{Roster}
 use Rattle.resp2.specs.Framing.Frame.{spelling}
 use Rattle.port_sessions.specs.Listening.{note_frame}
 use Rattle.port_sessions.specs.Talks.{Talk}
+use Rattle.port_sessions.specs.declared.hearing.Hearing.{Hearing}
 
 -- no master's configuration was told, of all that a roster has room for
 abbrev pub none_told : List (Option ℕ)
 none_told = replicate MASTERS_MAX None
+
+-- who never listened
+abbrev pub unheard : Hearing
+unheard = record { listens = None; told = none_told }
 
 -- the session listens since an entry before this one
 abbrev pub listened_before : Option ℕ → (entry : ℕ) → Bool
@@ -21,10 +26,12 @@ abbrev pub is_newer : (last : Option ℕ) → (epoch : ℕ) → Bool
 is_newer None epoch = true
 is_newer (Some last) epoch = nat_lt last epoch
 
--- The note of an entry is told to a session that listens since an entry before it, and that was told of no configuration of the master with
--- an epoch as high
+-- The note of an entry is told to who listens since an entry before it, and was told of no configuration of the master with an epoch as high
+abbrev pub is_news : (listens : Option ℕ) → (told : List (Option ℕ)) → Note → (entry : ℕ) → Bool
+is_news listens told note entry = listened_before listens entry && is_newer (slice_index_or told note.master None) note.card.epoch
+
 abbrev pub is_due : Talk → Note → (entry : ℕ) → Bool
-is_due talk note entry = listened_before talk.listens entry && is_newer (slice_index_or talk.told note.master None) note.card.epoch
+is_due talk note entry = is_news talk.listens talk.told note entry
 
 abbrev pub notified : Roster → Note → Talk → Talk
 notified roster note talk =

@@ -103,6 +103,11 @@ module _ (start : World) (now : ℕ) where
   abbrev pub Responds : Party → Result Command CommandFault → List ℕ → Party → Type 0
   Responds p command bytes q = RespondsAt p.listens p.view command bytes q
 
+  -- who doesn't listen to notes begins to: SUBSCRIBE takes its turn, and its answer isn't told
+  abbrev pub BeginsNotes : Option ℕ → Party → Party → Type 0
+  BeginsNotes None p q = (confirmation : List ℕ) × Responds p (Ok Subscribe) confirmation q
+  BeginsNotes (Some entry) p q = q ≡ p
+
   -- a command showed nothing in its turn where the session doesn't listen, since the Sentinel is halted or is so now, or has no turn, since no tickets are left
   pub record IsHaltedAt (p : Party) (command : Result Command CommandFault) (q : Party) : Type 0 where
     pub what : Command

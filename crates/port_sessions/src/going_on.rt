@@ -28,19 +28,20 @@ impl Exchange {
         ensures own { seat.new.cell ≡ seat.old.cell }
         ensures mark { result ≡ Ok None → limit.new.mark ≡ self.new.frames }
         ensures smaller { result ≡ Ok None → held_size self.new.frames < held_size self.old.frames }
-        ensures answered { (most : ℕ) (stream before bytes : List ℕ) (p : Party) → self.old.unsent.items ≡ before ++ bytes
-            → IsWithin cell.now.start now most stream p limit.old.most self.old.frames bytes (party seat.old.view self.old.responder.listens)
-            → (more : List ℕ) × (self.new.unsent.items ≡ before ++ more)
-            × StepsWithin cell.now.start now most stream p result limit.new.most self.new.frames more (party seat.new.view self.new.responder.listens) }
+        ensures answered { (most : ℕ) (stream before bytes : List ℕ) (p : Party) → self.old.responder.unsent.items ≡ before ++ bytes
+            → IsWithin cell.now.start now most stream p limit.old.most self.old.frames bytes (party seat.old.view self.old.responder.hears.listens)
+            → (more : List ℕ) × (self.new.responder.unsent.items ≡ before ++ more)
+            × StepsWithin cell.now.start now most stream p result limit.new.most self.new.frames more (party seat.new.view self.new.responder.hears.listens) }
+        ensures told { self.new.responder.hears.told ≡ self.old.responder.hears.told }
     {
         match next_within(&mut self.frames, limit) {
-            Ok(Ahead::Asked(asked)) => match self.answer(rt, cell, seat, now, &asked) {
+            Ok(Ahead::Asked(asked)) => match self.responder.answer(rt, cell, seat, now, &asked) {
                 Ok(()) => Ok(None),
                 Err(fault) => Err(fault),
             },
             Ok(Ahead::PutOff) => Ok(Some(Reach::Waits)),
             Ok(Ahead::Short) => Ok(Some(Reach::Done)),
-            Err(fault) => Err(self.refuse(fault)),
+            Err(fault) => Err(self.responder.refuse(fault)),
         }
     }
 
@@ -56,10 +57,11 @@ impl Exchange {
         requires own { seat.old.cell ≡ cell.now.id }
         requires mark { limit.old.mark ≡ self.old.frames }
         ensures own { seat.new.cell ≡ seat.old.cell }
-        ensures answered { (most : ℕ) (stream before bytes : List ℕ) (p : Party) → self.old.unsent.items ≡ before ++ bytes
-            → IsWithin cell.now.start now most stream p limit.old.most self.old.frames bytes (party seat.old.view self.old.responder.listens)
-            → (more : List ℕ) × (self.new.unsent.items ≡ before ++ more)
-            × DrainsWithin cell.now.start now most stream p result self.new.frames more (party seat.new.view self.new.responder.listens) }
+        ensures answered { (most : ℕ) (stream before bytes : List ℕ) (p : Party) → self.old.responder.unsent.items ≡ before ++ bytes
+            → IsWithin cell.now.start now most stream p limit.old.most self.old.frames bytes (party seat.old.view self.old.responder.hears.listens)
+            → (more : List ℕ) × (self.new.responder.unsent.items ≡ before ++ more)
+            × DrainsWithin cell.now.start now most stream p result self.new.frames more (party seat.new.view self.new.responder.hears.listens) }
+        ensures told { self.new.responder.hears.told ≡ self.old.responder.hears.told }
     {
         loop {
             match self.go_on_next(rt, cell, seat, now, limit) {
@@ -84,9 +86,10 @@ impl Exchange {
         requires open { self.old.frames ≡ reading (bytes_in self.old.frames) }
         ensures own { seat.new.cell ≡ seat.old.cell }
         ensures open { OnOk result (self.new.frames ≡ reading (bytes_in self.new.frames)) }
-        ensures received { (more : List ℕ) × (self.new.unsent.items ≡ self.old.unsent.items ++ more)
-            × TakesWithin cell.now.start now most (bytes_in self.old.frames ++ piece.now) (party seat.old.view self.old.responder.listens) result
-            (bytes_in self.new.frames) more (party seat.new.view self.new.responder.listens) }
+        ensures received { (more : List ℕ) × (self.new.responder.unsent.items ≡ self.old.responder.unsent.items ++ more)
+            × TakesWithin cell.now.start now most (bytes_in self.old.frames ++ piece.now) (party seat.old.view self.old.responder.hears.listens) result
+            (bytes_in self.new.frames) more (party seat.new.view self.new.responder.hears.listens) }
+        ensures told { self.new.responder.hears.told ≡ self.old.responder.hears.told }
     {
         if self.frames.feed(piece).is_err() {
             return Err(ServeFault::NoMemory);

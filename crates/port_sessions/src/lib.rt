@@ -24,13 +24,16 @@
 mod ahead;
 mod exchange;
 mod going_on;
+mod hearing;
 mod laws;
 mod limit;
 mod notes;
 mod responder;
 mod session;
 
+pub use hearing::Hearing;
 pub use laws::{law_answers_are_served, law_notes_rise, law_others_store_nothing, law_pieces_join};
 pub use limit::{Limit, Reach, may_store};
 pub use notes::add_note;
+pub use responder::Responder;
 pub use session::Session;

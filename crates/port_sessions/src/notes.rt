@@ -1,6 +1,6 @@
 //! What a client is sent that listens to notes.
 
-ghost use Rattle.std.specs.Prelude.{◌≡◌, ◌++◌, Ok, OnOk};
+ghost use Rattle.std.specs.Prelude.{◌≡◌, ◌++◌, [], Ok, OnOk};
 ghost use Rattle.resp2.specs.Framing.Frame.{spelling};
 ghost use Rattle.port_sessions.specs.Listening.{addr_words, note_text, message_frame, answer_while_listening};
 
@@ -10,27 +10,14 @@ use resp2::{OutText, push_bulk};
 use std::alloc::Global;
 use tokens::ip_text;
 
-/// Has the text hold these bytes, and nothing else.
-fn set_text(text: &mut OutText, bytes: &[u8]) -> Result<(), NoMemory>
-    ensures { OnOk result (text.new ≡ bytes.now) }
-{
-    text.clear();
-    text.add(bytes)
-}
-
-/// Has the text hold the answer to a command of a client that listens.
-pub(crate) fn write_for_listener(command: Command, text: &mut OutText) -> Result<(), NoMemory>
-    ensures { OnOk result (text.new ≡ spelling (answer_while_listening (Ok command))) }
+/// The answer to a command of a client that listens.
+pub(crate) fn line_for_listener(command: &Command) -> &'static [u8]
+    ensures { result.now ≡ spelling (answer_while_listening (Ok command.now)) }
 {
     match command {
-        Command::Ping => set_text(text, b"*2\r\n$4\r\npong\r\n$0\r\n\r\n"),
-        Command::Subscribe => {
-            set_text(
-                text,
-                b"*3\r\n$9\r\nsubscribe\r\n$14\r\n+switch-master\r\n:1\r\n",
-            )
-        }
-        _ => set_text(text, b"-ERR not allowed while subscribed\r\n"),
+        Command::Ping => b"*2\r\n$4\r\npong\r\n$0\r\n\r\n",
+        Command::Subscribe => b"*3\r\n$9\r\nsubscribe\r\n$14\r\n+switch-master\r\n:1\r\n",
+        _ => b"-ERR not allowed while subscribed\r\n",
     }
 }
 
@@ -56,17 +43,18 @@ pub fn add_note(text: &mut OutText, name: &Name, note: &Note) -> Result<(), NoMe
     add_addr(text, note.card.addr)
 }
 
-/// Has the text hold the message of a note about the master with this name.
+/// Has the text, which is empty, hold the message of a note about the master with this name.
 pub(crate) fn write_note(
     alloc: Global,
     name: &Name,
     note: &Note,
     text: &mut OutText,
 ) -> Result<(), NoMemory>
+    requires { text.old ≡ [] }
     ensures { OnOk result (text.new ≡ spelling (message_frame (note_text name.now note.now))) }
 {
     let mut told = OutText::new(alloc);
     add_note(&mut told, name, note)?;
-    set_text(text, b"*3\r\n$7\r\nmessage\r\n$14\r\n+switch-master\r\n")?;
+    text.add(b"*3\r\n$7\r\nmessage\r\n$14\r\n+switch-master\r\n")?;
     push_bulk(text, told.as_slice())
 }

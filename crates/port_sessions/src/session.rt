@@ -2,15 +2,14 @@
 
 ghost use Rattle.std.specs.Prelude.{◌≡◌, ◌≤◌, ◌<◌, ◌↔◌, ◌++◌, ℕ, List, [], None, Some, OnOk, OnErr, IfOk, IfErr, IfSome, IsTrue, MatchResult, length, drop};
 ghost use Rattle.std.specs.Option.{is_some};
-ghost use Rattle.ballot_law.specs.declared.rosters.TheConstants.{MASTERS_MAX};
-ghost use Rattle.port_sessions.specs.Notes.{none_told, is_due, Notifies};
+ghost use Rattle.port_sessions.specs.Notes.{none_told, Notifies};
 ghost use Rattle.port_sessions.specs.GoingOn.{GoesOn};
 ghost use Rattle.port_sessions.specs.Talks.{EndsSession, Receives, party};
 ghost use Rattle.ballot_law.specs.Limits.{IsWithin};
 
 use crate::exchange::Exchange;
 use crate::limit::Reach;
-use ballot_law::{Command, MASTERS_MAX, NoMemory, Note, Roster};
+use ballot_law::{Command, NoMemory, Note, Roster};
 use resp2::CommandFault;
 use sentinel_cell::{Seat, SharedSentinel};
 use sentinel_conf::ConfStore;
@@ -26,7 +25,6 @@ use std::sync::Wait;
 pub struct Session {
     exchange: Exchange,
     fault: Option<ServeFault>,
-    told: [Option<u64>; MASTERS_MAX],
 }
 
 impl Model for Session {
@@ -38,14 +36,14 @@ impl Model for Session {
 
     ghost view = { λ session. record {
       held = bytes_in session.exchange.frames;
-      unsent = session.exchange.unsent.items;
+      unsent = session.exchange.responder.unsent.items;
       ended = session.fault;
-      listens = session.exchange.responder.listens;
-      told = session.told;
+      listens = session.exchange.responder.hears.listens;
+      told = session.exchange.responder.hears.told;
     } };
 
     ghost invariant = { λ session. (session.exchange.frames ≡ reading (bytes_in session.exchange.frames))
-        × IsEmptied session.fault (bytes_in session.exchange.frames) session.exchange.responder.listens };
+        × IsEmptied session.fault (bytes_in session.exchange.frames) session.exchange.responder.hears.listens };
 }
 
 impl Session {
@@ -56,7 +54,6 @@ impl Session {
         Session {
             exchange: Exchange::new(alloc),
             fault: None,
-            told: [None; MASTERS_MAX],
         }
     }
 
@@ -183,7 +180,7 @@ impl Session {
         if let Some(fault) = self.fault {
             return Err(fault);
         }
-        match self.exchange.answer(rt, cell, seat, now, asked) {
+        match self.exchange.responder.answer(rt, cell, seat, now, asked) {
             Ok(()) => Ok(()),
             Err(fault) => {
                 self.exchange.close();
@@ -197,14 +194,14 @@ impl Session {
     pub fn unsent(&self) -> &[u8]
         ensures { result.now ≡ self.now.unsent }
     {
-        self.exchange.unsent()
+        self.exchange.responder.unsent()
     }
 
     /// Whether it listens to notes.
     pub fn listens(&self) -> bool
         ensures { result ≡ is_some self.now.listens }
     {
-        self.exchange.responder.listens.is_some()
+        self.exchange.responder.listens()
     }
 
     /// Whether all that came was whole values: no bytes are held.
@@ -220,7 +217,7 @@ impl Session {
         requires { n ≤ length self.old.unsent }
         ensures { self.new ≡ record self.old { unsent = drop n self.old.unsent } }
     {
-        self.exchange.sent(n);
+        self.exchange.responder.sent(n);
     }
 
     /// Gives back the room in which nothing is held, as where its client is silent for a while; the next answer takes
@@ -228,24 +225,7 @@ impl Session {
     pub fn rest(&mut self)
         ensures { self.new ≡ self.old }
     {
-        self.exchange.rest();
-    }
-
-    /// Whether a note of this entry is news to the client.
-    fn is_due(&self, note: &Note, entry: u64) -> bool
-        requires { note.now.master < MASTERS_MAX }
-        ensures { result ≡ is_due self.now note.now entry }
-    {
-        let Some(since) = self.exchange.responder.listens else {
-            return false;
-        };
-        if entry <= since {
-            return false;
-        }
-        match self.told[note.master as usize] {
-            Some(last) => last < note.card.epoch,
-            None => true,
-        }
+        self.exchange.responder.rest();
     }
 
     /// Tells the client of a note, where it is due: whether it is. `entry` is the number of calls before the one that
@@ -265,11 +245,10 @@ impl Session {
         ensures { Notifies roster.now note.now entry self.old result self.new }
     {
         roster.is_made();
-        if !self.is_due(note, entry) {
+        if !self.exchange.responder.is_news(note, entry) {
             return Ok(false);
         }
-        self.exchange.put_note(roster, note)?;
-        self.told[note.master as usize] = Some(note.card.epoch);
+        self.exchange.responder.put_note(roster, note)?;
         Ok(true)
     }
 }

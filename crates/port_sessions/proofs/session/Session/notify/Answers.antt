@@ -1,7 +1,7 @@
-use Rattle.std.proofs.Common.{◌≡◌, Some, slice_set, sym, subst, ◌∙◌}
+use Rattle.std.proofs.Common.{◌≡◌, ap, sym, subst, ◌∙◌}
 use Rattle.resp2.specs.Framing.Stream.{bytes_in}
 use Rattle.port_sessions.proofs.Told.{talk_of}
-use Rattle.port_sessions.specs.Notes.{notified}
+use Rattle.port_sessions.specs.Notes.{is_due, notified}
 use Rattle.port_sessions.specs.Talks.{Talk}
 use Rattle.port_sessions.proofs.session.Session.notify.Goals as goal
 
@@ -9,9 +9,8 @@ pub returns : goal.returns
 returns c =
     let inside = c.self.inside in
     let new = c.put_note.new.self in
-    let put = c.in_ok-put_note.ensures in
-    let told = slice_set inside.told c.args.note.now.master (Some c.args.note.now.card.epoch) in (
-      sym c.is_due.ensures ∙ c.if-not-is_due.false,
-      subst (λ (old : Talk). talk_of inside.fault told (bytes_in new.frames) new.unsent.items new.responder.listens ≡ notified c.args.roster.now c.args.note.now old) c.self.view_is
-          (λ i. talk_of inside.fault told (bytes_in (put.frames i)) (put.ok i) (put.listens i)),
+    let put = c.in_ok-put_note.ensures in (
+      ap (λ (t : Talk). is_due t c.args.note.now c.args.entry) (sym c.self.view_is) ∙ sym c.is_news.ensures ∙ c.if-not-is_news.false,
+      subst (λ (old : Talk). talk_of inside.fault new.hears.told (bytes_in inside.exchange.frames) new.unsent.items new.hears.listens ≡ notified c.args.roster.now c.args.note.now old)
+          c.self.view_is (λ i. talk_of inside.fault (put.told i) (bytes_in inside.exchange.frames) (put.ok i) (c.put_note.ensures.listens i)),
     )

@@ -1,4 +1,4 @@
-use Rattle.port_sessions.proofs.responder.Responder.answer.Goals as goal
+use Rattle.port_sessions.proofs.responder.Responder.answer_unheard.Goals as goal
 
 -- the answer to a question for an address rests on what the seat had seen before the question, with no turn between
 pub returns-in-Ok-GetMasterAddrByName-clause-answered : goal.returns-in-Ok-GetMasterAddrByName-clause-answered
