@@ -4,12 +4,11 @@ use Rattle.std.proofs.lemmas.List.{length-map}
 use Rattle.ballot_law.specs.declared.rosters.TheConstants.{MASTERS_MAX}
 use Rattle.resp2.specs.Framing.Frame.{bulk, spelling}
 use Rattle.port_answers.specs.declared.info_lines.MasterLine.{MasterLine}
-use Rattle.port_answers.specs.declared.info_lines.TheConstants.{SECTION_MAX}
 use Rattle.port_answers.specs.InfoLines.{line_of, lines_of, section_front, sentinel_section, section_frame}
 use Rattle.port_answers.specs.Limits.{IsMasterLine, IsSpanIfAny}
 use Rattle.port_answers.specs.Room.{bounded, within_section}
 use Rattle.port_answers.proofs.Fitting.{sections_fit}
-use Rattle.bounded_list.proofs.Bounded.{two_adds}
+use Rattle.port_answers.proofs.Filling.{section_more}
 use Rattle.sentinel_rules.specs.Plans.{Plan, master_count}
 use Rattle.sentinel_rules.specs.States.{Core}
 use Rattle.sentinel_rules.specs.Answers.{numbers_from, all_masters, master_line, tilted_for, info_frame}
@@ -28,7 +27,7 @@ pub line_written : (front : List ℕ) (line_at : ℕ → MasterLine) (n : ℕ) (
     → mid ≡ within_section (front ++ lines_below line_at n) → new ≡ within_section (mid ++ line_of n line)
     → new ≡ within_section (front ++ lines_below line_at (n + 1))
 line_written front line_at n line mid new is e f =
-    two_adds SECTION_MAX front mid new (lines_below line_at n) (line_of n (line_at n)) e (f ∙ ap (λ (l : MasterLine). within_section (mid ++ line_of n l)) is)
+    section_more front mid new (lines_below line_at n) (line_of n (line_at n)) e (f ∙ ap (λ (l : MasterLine). within_section (mid ++ line_of n l)) is)
     ∙ ap (λ t. within_section (front ++ t)) (sym (next_line line_at n))
 
 lines_from : (line_at : ℕ → MasterLine) (place count : ℕ)
