@@ -1,5 +1,5 @@
 -- The section of INFO that tells of a Sentinel, written line by line.
-use Rattle.std.proofs.Common.{◌≡◌, ℕ, zero, suc, ◌+◌, ◌<◌, ◌≤◌, List, [], ◌∷◌, ◌++◌, length, map, refl, ap, sym, ◌∙◌, append-nil, append_assoc, add-one, add-zero, arith}
+use Rattle.std.proofs.Common.{◌≡◌, ℕ, zero, suc, ◌+◌, ◌<◌, ◌≤◌, List, [], ◌++◌, length, map, ap, sym, ◌∙◌, append-nil, append_assoc, add-one, add-zero, arith}
 use Rattle.std.proofs.lemmas.List.{length-map}
 use Rattle.ballot_law.specs.declared.rosters.TheConstants.{MASTERS_MAX}
 use Rattle.resp2.specs.Framing.Frame.{bulk, spelling}
@@ -11,7 +11,7 @@ use Rattle.port_answers.proofs.Fitting.{sections_fit}
 use Rattle.port_answers.proofs.Filling.{section_more}
 use Rattle.sentinel_rules.specs.Plans.{Plan, master_count}
 use Rattle.sentinel_rules.specs.States.{Core}
-use Rattle.sentinel_rules.specs.Answers.{numbers_from, all_masters, master_line, tilted_for, info_frame}
+use Rattle.sentinel_rules.specs.Answers.{numbers_from, master_line, tilted_for, info_frame}
 use Rattle.sentinel_rules.proofs.Choices.{length-numbers_from}
 use Rattle.sentinel_core.proofs.InputsLemmas.AnswerRows.{text_below, each_from}
 
