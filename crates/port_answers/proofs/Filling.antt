@@ -4,9 +4,10 @@ use Rattle.std.specs.Prelude.{IsOk, OnOk}
 use Rattle.std.proofs.lemmas.List.{take-append-le, take_all, take-take, length-take-le}
 use Rattle.resp2.specs.Framing.Writing.{Begins, Adds}
 use Rattle.bounded_list.specs.BoundedLists as lists
-use Rattle.bounded_list.proofs.Bounded.{bounded_all, added_fits}
+use Rattle.bounded_list.proofs.Bounded.{bounded_all, added_fits, two_adds}
 use Rattle.ballot_law.specs.declared.messages.TheConstants.{ANSWER_MAX}
-use Rattle.port_answers.specs.Room.{bounded}
+use Rattle.port_answers.specs.declared.info_lines.TheConstants.{SECTION_MAX}
+use Rattle.port_answers.specs.Room.{bounded, within_section}
 
 -- what has room was added, and what has none was cut
 pub filled : {X E : Type 0} (answer : Result X E) (before after bytes : List ℕ) → Adds answer before after bytes (length after ≡ ANSWER_MAX) → bounded after ≡ after
@@ -41,3 +42,8 @@ pub extended : {X E : Type 0} (limit : ℕ) (old piece part new : List ℕ) (k :
 extended limit old piece part new k answer short e f size may h =
     let room : length old + length part ≤ limit = omega (arith, e, size) in
     added_fits limit old piece part new k true short e f refl (on_ok answer (new ≡ old ++ part) (may.1 room) h)
+
+-- two parts of a section, one behind the other
+pub section_more : (old mid new first second : List ℕ) → mid ≡ within_section (old ++ first) → new ≡ within_section (mid ++ second)
+    → new ≡ within_section (old ++ (first ++ second))
+section_more old mid new first second e f = two_adds SECTION_MAX old mid new first second e f

@@ -1,5 +1,5 @@
 -- How long the section of INFO that tells of a Sentinel may be.
-use Rattle.std.proofs.Common.{◌≡◌, ℕ, suc, ◌+◌, ◌*◌, ◌/◌, ◌≤◌, ◌<◌, ◌^◌, Bool, true, false, List, [], ◌∷◌, ◌++◌, length, arith, length-append, suc-mul, decimal}
+use Rattle.std.proofs.Common.{ℕ, suc, ◌+◌, ◌*◌, ◌/◌, ◌≤◌, ◌<◌, ◌^◌, Bool, true, false, List, [], ◌∷◌, ◌++◌, length, arith, length-append, suc-mul, decimal}
 use Rattle.std.specs.Prelude.{codes, Option, Some, None}
 use Rattle.std.specs.List.{AllByRecursion}
 use Rattle.resp2.specs.Framing.Frame.{bulk, spelling, line_end}

@@ -1,18 +1,17 @@
 -- The section of INFO that tells of a Sentinel, written line by line.
-use Rattle.std.proofs.Common.{◌≡◌, ℕ, zero, suc, ◌+◌, ◌<◌, ◌≤◌, Option, List, [], ◌∷◌, ◌++◌, length, map, refl, ap, sym, ◌∙◌, append-nil, append_assoc, add-one, add-zero, arith}
+use Rattle.std.proofs.Common.{◌≡◌, ℕ, zero, suc, ◌+◌, ◌<◌, ◌≤◌, List, [], ◌++◌, length, map, ap, sym, ◌∙◌, append-nil, append_assoc, add-one, add-zero, arith}
 use Rattle.std.proofs.lemmas.List.{length-map}
 use Rattle.ballot_law.specs.declared.rosters.TheConstants.{MASTERS_MAX}
 use Rattle.resp2.specs.Framing.Frame.{bulk, spelling}
 use Rattle.port_answers.specs.declared.info_lines.MasterLine.{MasterLine}
-use Rattle.port_answers.specs.declared.info_lines.TheConstants.{SECTION_MAX}
 use Rattle.port_answers.specs.InfoLines.{line_of, lines_of, section_front, sentinel_section, section_frame}
 use Rattle.port_answers.specs.Limits.{IsMasterLine, IsSpanIfAny}
 use Rattle.port_answers.specs.Room.{bounded, within_section}
 use Rattle.port_answers.proofs.Fitting.{sections_fit}
-use Rattle.bounded_list.proofs.Bounded.{two_adds}
+use Rattle.port_answers.proofs.Filling.{section_more}
 use Rattle.sentinel_rules.specs.Plans.{Plan, master_count}
 use Rattle.sentinel_rules.specs.States.{Core}
-use Rattle.sentinel_rules.specs.Answers.{numbers_from, all_masters, master_line, tilted_for, info_frame}
+use Rattle.sentinel_rules.specs.Answers.{numbers_from, master_line, tilted_for, info_frame}
 use Rattle.sentinel_rules.proofs.Choices.{length-numbers_from}
 use Rattle.sentinel_core.proofs.InputsLemmas.AnswerRows.{text_below, each_from}
 
@@ -28,7 +27,7 @@ pub line_written : (front : List ℕ) (line_at : ℕ → MasterLine) (n : ℕ) (
     → mid ≡ within_section (front ++ lines_below line_at n) → new ≡ within_section (mid ++ line_of n line)
     → new ≡ within_section (front ++ lines_below line_at (n + 1))
 line_written front line_at n line mid new is e f =
-    two_adds SECTION_MAX front mid new (lines_below line_at n) (line_of n (line_at n)) e (f ∙ ap (λ (l : MasterLine). within_section (mid ++ line_of n l)) is)
+    section_more front mid new (lines_below line_at n) (line_of n (line_at n)) e (f ∙ ap (λ (l : MasterLine). within_section (mid ++ line_of n l)) is)
     ∙ ap (λ t. within_section (front ++ t)) (sym (next_line line_at n))
 
 lines_from : (line_at : ℕ → MasterLine) (place count : ℕ)
@@ -42,12 +41,13 @@ lines_from line_at place (suc count) =
     ∙ ap (lines_below line_at) (let e : place + 1 + count ≡ place + suc count = omega arith in e)
 
 -- the section of all masters is whole, and so is the answer that has it
-pub section_whole : (plan : Plan) (core : Core) (now n : ℕ) (tilt : Option ℕ) (section old text : List ℕ) → n ≡ master_count plan → n ≤ MASTERS_MAX
-    → tilt ≡ tilted_for core now → IsSpanIfAny tilt → ((m : ℕ) → m < n → IsMasterLine (master_line plan core now m))
-    → section ≡ within_section (section_front n tilt ++ lines_below (master_line plan core now) n)
+pub section_whole : (plan : Plan) (core : Core) (now n : ℕ) (section old text : List ℕ) → n ≡ master_count plan → n ≤ MASTERS_MAX
+    → IsSpanIfAny (tilted_for core now) → ((m : ℕ) → m < n → IsMasterLine (master_line plan core now m))
+    → section ≡ within_section (section_front n (tilted_for core now) ++ lines_below (master_line plan core now) n)
     → old ≡ [] → text ≡ bounded (old ++ spelling (bulk section)) → text ≡ spelling (info_frame plan core now)
-section_whole plan core now n tilt section old text is few tilt_is span each e none f =
+section_whole plan core now n section old text is few span each e none f =
     let line_at = master_line plan core now in
+    let tilt = tilted_for core now in
     let lines = map line_at (numbers_from 0 n) in
     let count : length lines ≡ n = length-map (numbers_from 0 n) line_at ∙ length-numbers_from 0 n in
     let fit = sections_fit tilt lines span (omega (arith, count)) (each_from IsMasterLine line_at 0 n (λ k l. each k (omega arith))) in
@@ -62,5 +62,4 @@ section_whole plan core now n tilt section old text is few tilt_is span each e n
     ∙ ap (λ t. bounded (t ++ spelling (bulk section))) none
     ∙ ap (λ s. bounded (spelling (bulk s))) whole
     ∙ fit.frame.whole
-    ∙ ap (λ (t : Option ℕ). spelling (section_frame t lines)) tilt_is
-    ∙ ap (λ k. spelling (section_frame (tilted_for core now) (map line_at (numbers_from 0 k)))) is
+    ∙ ap (λ k. spelling (section_frame tilt (map line_at (numbers_from 0 k)))) is

@@ -189,10 +189,13 @@ pub(crate) fn add_info(plan: &Plan, core: &Core, now: u64, text: &mut AnswerText
 {
     let mut section = InfoSection::new();
     let count = plan.master_count();
+    let masters = u64::from(count);
     let tilt = tilted_for(core, now);
-    section.add_front(u64::from(count), tilt);
+    section.add_front(masters, tilt);
     for m in 0..count {
-        section.add_master(u64::from(m), &master_line(plan, core, now, m));
+        let n = u64::from(m);
+        let line = master_line(plan, core, now, m);
+        section.add_master(n, &line);
     }
     text.add_section(&section);
 }

@@ -1,5 +1,5 @@
-use Rattle.std.proofs.Common.{ℕ, List, ◌++◌}
-use Rattle.std.specs.Prelude.{codes, decimal}
+use Rattle.std.proofs.Common.{◌++◌}
+use Rattle.std.specs.Prelude.{decimal}
 use Rattle.resp2.specs.Framing.Frame.{line_end}
 use Rattle.port_answers.specs.declared.info_lines.TheConstants.{SECTION_MAX}
 use Rattle.port_answers.specs.InfoLines.{tilt_lines, no_scripts, title}

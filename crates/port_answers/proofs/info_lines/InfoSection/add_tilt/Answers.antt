@@ -1,4 +1,4 @@
-use Rattle.std.proofs.Common.{ℕ, List, ◌+◌, ◌/◌, ◌++◌, Option, None, Some, ap, sym, ◌∙◌}
+use Rattle.std.proofs.Common.{ℕ, List, ◌+◌, ◌/◌, ◌++◌, Option, ap, sym, ◌∙◌}
 use Rattle.std.specs.Prelude.{codes, decimal}
 use Rattle.resp2.specs.Framing.Frame.{line_end}
 use Rattle.port_answers.specs.declared.info_lines.TheConstants.{SECTION_MAX}
