@@ -1,7 +1,6 @@
 //! INFO.
 
 ghost use Rattle.std.specs.Prelude.{◌≡◌, ◌++◌, [], OnOk, codes, decimal};
-ghost use Rattle.resp2.specs.Commands.{word};
 ghost use Rattle.resp2.specs.Framing.Frame as frames;
 ghost use Rattle.resp2.specs.Framing.Frame.{view, spelling, line_end};
 ghost use Rattle.client_commands.specs.Courtesies.{text_of, info_answer};
@@ -15,7 +14,7 @@ use crate::port_facts::Figures;
 use crate::refusals::is_called;
 use ballot_law::{NoMemory, Text};
 use itoa::Buffer;
-use resp2::{OutText, Value, push_bulk};
+use resp2::{OutText, Value, push_bulk, word_of};
 use std::alloc::Global;
 use tokens::run_id_text;
 
@@ -51,7 +50,7 @@ fn is_told(section: &[u8], words: &[Text]) -> bool
 }
 
 /// Adds a label, its text and the end of the line.
-#[tactic(auto, unfolding(crate::specs::Infos::line))]
+#[tactic(auto, unfolding(crate::specs::Sections::line))]
 fn add_line(out: &mut OutText, label: &[u8], text: &[u8]) -> Result<(), NoMemory>
     ensures { OnOk result (out.new ≡ out.old ++ line label.now text.now) }
 {
@@ -69,7 +68,7 @@ fn add_count_line(out: &mut OutText, label: &[u8], number: u64) -> Result<(), No
 }
 
 /// Adds how the section of a server begins.
-#[tactic(auto, unfolding(crate::specs::Infos::server_front))]
+#[tactic(auto, unfolding(crate::specs::Sections::server_front))]
 fn add_server_front(out: &mut OutText) -> Result<(), NoMemory>
     ensures { OnOk result (out.new ≡ out.old ++ server_front) }
 {
@@ -89,7 +88,7 @@ fn add_server(out: &mut OutText, figures: &Figures) -> Result<(), NoMemory>
 }
 
 /// Adds how the section of clients begins.
-#[tactic(auto, unfolding(crate::specs::Infos::clients_front))]
+#[tactic(auto, unfolding(crate::specs::Sections::clients_front))]
 fn add_clients_front(out: &mut OutText) -> Result<(), NoMemory>
     ensures { OnOk result (out.new ≡ out.old ++ clients_front) }
 {
@@ -107,7 +106,7 @@ fn add_clients(out: &mut OutText, figures: &Figures) -> Result<(), NoMemory>
 }
 
 /// Adds how the section of counts begins.
-#[tactic(auto, unfolding(crate::specs::Infos::stats_front))]
+#[tactic(auto, unfolding(crate::specs::Sections::stats_front))]
 fn add_stats_front(out: &mut OutText) -> Result<(), NoMemory>
     ensures { OnOk result (out.new ≡ out.old ++ stats_front) }
 {
@@ -125,7 +124,7 @@ fn add_stats(out: &mut OutText, figures: &Figures) -> Result<(), NoMemory>
 }
 
 /// Adds how the section of the processor begins.
-#[tactic(auto, unfolding(crate::specs::Infos::cpu_front))]
+#[tactic(auto, unfolding(crate::specs::Sections::cpu_front))]
 fn add_cpu_front(out: &mut OutText) -> Result<(), NoMemory>
     ensures { OnOk result (out.new ≡ out.old ++ cpu_front) }
 {
@@ -141,7 +140,7 @@ fn add_decimal(out: &mut OutText, number: u64) -> Result<(), NoMemory>
 }
 
 /// Adds a label and hundredths of a second, as seconds with six places.
-#[tactic(auto, unfolding(crate::specs::Infos::time_line))]
+#[tactic(auto, unfolding(crate::specs::Sections::time_line))]
 fn add_time_line(out: &mut OutText, label: &[u8], hundredths: u64) -> Result<(), NoMemory>
     ensures { OnOk result (out.new ≡ out.old ++ time_line label.now hundredths) }
 {
@@ -260,16 +259,6 @@ fn add_sections(
     add_text(out, asks_sentinel(words), section)
 }
 
-/// The text of a section; none where the value is no bulk string.
-fn bytes_of(section: &Value) -> &[u8]
-    ensures { result.now ≡ word (view section.now) }
-{
-    match section {
-        Value::Bulk(text) => text.as_slice(),
-        _ => &[],
-    }
-}
-
 /// The answer is the sections that the words ask for.
 fn say_sections(
     alloc: Global,
@@ -302,7 +291,7 @@ pub fn info(
 {
     let words = words_of(alloc, value)?;
     let words = after_first(words.as_slice());
-    say_sections(alloc, words, figures, bytes_of(section), out)
+    say_sections(alloc, words, figures, word_of(section), out)
 }
 
 /// Whether the words of INFO ask for the section of the Sentinel.
