@@ -52,18 +52,11 @@ pub(crate) struct PeerConnection<J: Which, C: Connects<J>> {
     alloc: Global,
 }
 
-/// Hands these events on to the Sentinel, in their order, which it may take. They are those of one read, so there are
-/// few.
-fn hand_on_all<J: Which, R: Wait>(
-    rt: &R,
-    near: &mut TransportEnd<J>,
-    mut events: Vec<Event>,
-    now: u64,
-)
+/// Hands these events on to the Sentinel, in their order, which it may take.
+fn hand_on_all<J: Which, R: Wait>(rt: &R, near: &mut TransportEnd<J>, events: Vec<Event>, now: u64)
     requires { AllByRecursion (IsTakeable J.told) events.items }
 {
-    while !events.is_empty() {
-        let event = events.remove(0);
+    for event in events {
         near.hand_on(rt, event, now);
     }
 }

@@ -17,6 +17,7 @@ use log::Log;
 use sentinel_conf::ConfStore;
 use sentinel_runtime::{Outlet, RunFault, RunningSentinel, ThreadSeat, Ticker, Which, hear};
 use std::alloc::Global;
+use std::collections::VecDeque;
 use std::rt::Clock;
 use std::sync::Wait;
 use std::sync::atomic::Ordering;
@@ -38,7 +39,7 @@ pub struct TickLoop<J: Which> {
     stood_still: bool,
     hellos: HelloNotes,
     replicas: ReplicaNotes,
-    later: Vec<Hearing<J>>,
+    later: VecDeque<Hearing<J>>,
     has_ticked: bool,
 }
 
@@ -131,7 +132,7 @@ impl<J: Which> TickLoop<J> {
             stood_still: false,
             hellos: HelloNotes::new(now),
             replicas: ReplicaNotes::new(alloc),
-            later: Vec::new(alloc),
+            later: VecDeque::new(alloc),
             has_ticked: false,
         }
     }
@@ -205,7 +206,7 @@ impl<J: Which> TickLoop<J> {
     {
         if may_be_stored(&event) && self.pace.is_late(state.run.clock.now(rt)) {
             if self.later.len() < LATER_MAX {
-                drop(self.later.push(Hearing::of(event)));
+                drop(self.later.push_back(Hearing::of(event)));
             }
             return true;
         }
@@ -221,15 +222,14 @@ impl<J: Which> TickLoop<J> {
         seat: &mut ThreadSeat<J>,
     ) -> bool {
         for _ in 0..EVENTS_MAX {
-            if self.later.is_empty() {
-                self.has_ticked = false;
-                return true;
-            }
             if !self.has_ticked && self.pace.is_late(state.run.clock.now(rt)) {
                 return true;
             }
-            let event = self.later.remove(0).into_event();
-            if !self.hear_one(rt, state, member, seat, event) {
+            let Some(hearing) = self.later.pop_front() else {
+                self.has_ticked = false;
+                return true;
+            };
+            if !self.hear_one(rt, state, member, seat, hearing.into_event()) {
                 return false;
             }
         }
