@@ -268,16 +268,12 @@ impl<J: Which, C: Connects<J>> PeerConnection<J, C> {
         }
     }
 
-    /// Puts out a message where it is open, and sends what it can; else the message is lost, and so is a PING where the
-    /// connection has sent one a moment ago. What came of an order to follow a master, or none, is asked soon, and the
-    /// last hello goes out once more. A fault has closed it.
+    /// Puts out a message where it is open, and sends what it can; else the message is lost. What came of an order to
+    /// follow a master, or none, is asked soon, and the last hello goes out once more. A fault has closed it.
     pub(crate) fn ask(&mut self, outgoing: &Outgoing<J>, now: u64)
         requires { (self.old.link.target.node ≡ outgoing.now.target) × (self.old.link.target.listens ≡ false) }
     {
         let message = outgoing.message();
-        if let Body::Ping = message.body {
-            return self.ask_due(now);
-        }
         self.ask_ack(&message.body, now);
         let _ = self.link.ask(outgoing, now);
         if let Body::ReplicaOf(_) = message.body {
