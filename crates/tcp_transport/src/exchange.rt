@@ -7,7 +7,7 @@ ghost use Rattle.ballot_law.specs.Limits.{IsWithinEvent};
 ghost use Rattle.sentinel_runtime.specs.Hearing.{MayTake};
 ghost use Rattle.tcp_transport.specs.Hearing.{IsTakeable};
 
-use ballot_law::{Event, Message};
+use ballot_law::{Body, Event, Message};
 use crossbeam_channel::{Receiver, Sender, unbounded};
 use links::HelloDedup;
 use mio::{Registry, Token, Waker};
@@ -219,8 +219,8 @@ impl<J: Which> SentinelEnd<J> {
 }
 
 /// The connections as the place where messages go, each in its turn. A message is lost where too many wait, where no
-/// connection takes it, and where there is no memory. Where one waits already, the thread of the connections was woken
-/// for that, and takes this one too.
+/// connection takes it, and where there is no memory; each PING is, since connections send their own. Where a message
+/// waits already, the thread of the connections was woken for that, and takes this one too.
 #[derive(Clone, Copy)]
 pub(crate) struct WireOutlet<'a, J: Which, R: Wait> {
     end: &'a SentinelEnd<J>,
@@ -229,7 +229,7 @@ pub(crate) struct WireOutlet<'a, J: Which, R: Wait> {
 
 impl<J: Which, R: Wait> Outlet<J> for WireOutlet<'_, J, R> {
     fn send(&mut self, message: &Message) {
-        if self.end.messages.len() >= WAITING_MAX {
+        if matches!(message.body, Body::Ping) || self.end.messages.len() >= WAITING_MAX {
             return;
         }
         if let Ok(message) = copy_of(self.end.alloc, message) {

@@ -52,18 +52,11 @@ pub(crate) struct PeerConnection<J: Which, C: Connects<J>> {
     alloc: Global,
 }
 
-/// Hands these events on to the Sentinel, in their order, which it may take. They are those of one read, so there are
-/// few.
-fn hand_on_all<J: Which, R: Wait>(
-    rt: &R,
-    near: &mut TransportEnd<J>,
-    mut events: Vec<Event>,
-    now: u64,
-)
+/// Hands these events on to the Sentinel, in their order, which it may take.
+fn hand_on_all<J: Which, R: Wait>(rt: &R, near: &mut TransportEnd<J>, events: Vec<Event>, now: u64)
     requires { AllByRecursion (IsTakeable J.told) events.items }
 {
-    while !events.is_empty() {
-        let event = events.remove(0);
+    for event in events {
         near.hand_on(rt, event, now);
     }
 }
@@ -275,16 +268,12 @@ impl<J: Which, C: Connects<J>> PeerConnection<J, C> {
         }
     }
 
-    /// Puts out a message where it is open, and sends what it can; else the message is lost, and so is a PING where the
-    /// connection has sent one a moment ago. What came of an order to follow a master, or none, is asked soon, and the
-    /// last hello goes out once more. A fault has closed it.
+    /// Puts out a message where it is open, and sends what it can; else the message is lost. What came of an order to
+    /// follow a master, or none, is asked soon, and the last hello goes out once more. A fault has closed it.
     pub(crate) fn ask(&mut self, outgoing: &Outgoing<J>, now: u64)
         requires { (self.old.link.target.node ≡ outgoing.now.target) × (self.old.link.target.listens ≡ false) }
     {
         let message = outgoing.message();
-        if let Body::Ping = message.body {
-            return self.ask_due(now);
-        }
         self.ask_ack(&message.body, now);
         let _ = self.link.ask(outgoing, now);
         if let Body::ReplicaOf(_) = message.body {

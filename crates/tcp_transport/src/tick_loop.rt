@@ -17,6 +17,7 @@ use log::Log;
 use sentinel_conf::ConfStore;
 use sentinel_runtime::{Outlet, RunFault, RunningSentinel, ThreadSeat, Ticker, Which, hear};
 use std::alloc::Global;
+use std::collections::VecDeque;
 use std::rt::Clock;
 use std::sync::Wait;
 use std::sync::atomic::Ordering;
@@ -38,8 +39,29 @@ pub struct TickLoop<J: Which> {
     stood_still: bool,
     hellos: HelloNotes,
     replicas: ReplicaNotes,
-    later: Vec<Hearing<J>>,
+    later: VecDeque<Hearing<J>>,
     has_ticked: bool,
+}
+
+/// The turns of a Sentinel that this thread has it take, by its own seat.
+#[derive(Drop)]
+struct Turns<'a, R, J: Which, S: ConfStore> {
+    rt: &'a R,
+    state: &'a WatchState,
+    member: &'a RunningSentinel<J, S>,
+    seat: &'a mut ThreadSeat<J>,
+}
+
+impl<R: Clock, J: Which, S: ConfStore> Turns<'_, R, J, S> {
+    /// The reading of the clock.
+    fn now(&self) -> u64 {
+        self.state.run.clock.now(self.rt)
+    }
+
+    /// A number by lot: the part of a second that the clock shows, in nanoseconds.
+    fn lot(&self) -> u64 {
+        u64::from(self.state.run.clock.elapsed(self.rt).subsec_nanos())
+    }
 }
 
 /// Whether what an event tells may be stored: a new configuration.
@@ -111,11 +133,6 @@ fn hearer<'a, J: Which, S: ConfStore>(member: &'a RunningSentinel<J, S>, now: u6
     }
 }
 
-/// A number by lot: the part of a second that the clock shows, in nanoseconds.
-fn lot<R: Clock>(rt: &R, state: &WatchState) -> u64 {
-    u64::from(state.run.clock.elapsed(rt).subsec_nanos())
-}
-
 impl<J: Which> TickLoop<J> {
     /// Nothing was heard yet at this reading of the clock, and the ticks are due at once.
     pub fn new<S: ConfStore>(
@@ -131,27 +148,21 @@ impl<J: Which> TickLoop<J> {
             stood_still: false,
             hellos: HelloNotes::new(now),
             replicas: ReplicaNotes::new(alloc),
-            later: Vec::new(alloc),
+            later: VecDeque::new(alloc),
             has_ticked: false,
         }
     }
 
     /// Holds the ticks back where a campaign has come near, until the Sentinel has its turn: that goes by its place,
     /// and moves on with each configuration of the master.
-    fn hold<S: ConfStore, R: Clock>(
-        &mut self,
-        rt: &R,
-        state: &WatchState,
-        member: &RunningSentinel<J, S>,
-        seat: &mut ThreadSeat<J>,
-    ) {
-        if let Some(number) = seat.take_nearness() {
-            let roster = member.roster();
+    fn hold<S: ConfStore, R: Clock>(&mut self, turns: &mut Turns<'_, R, J, S>) {
+        if let Some(number) = turns.seat.take_nearness() {
+            let roster = turns.member.roster();
             roster.is_made();
-            let turns = (roster.sentinels().len() as u64).max(1);
-            let turn = turn_of(member.place(), number, turns);
-            let pause = pause_of(turn, turns, lot(rt, state));
-            self.pace.hold(state.run.clock.now(rt), pause);
+            let count = (roster.sentinels().len() as u64).max(1);
+            let turn = turn_of(turns.member.place(), number, count);
+            let pause = pause_of(turn, count, turns.lot());
+            self.pace.hold(turns.now(), pause);
         }
     }
 
@@ -169,24 +180,28 @@ impl<J: Which> TickLoop<J> {
     /// Has the Sentinel take an event: whether it goes on. An answer may bring a campaign near.
     fn hear_one<S: ConfStore, R: Wait + Clock + Log>(
         &mut self,
-        rt: &R,
-        state: &WatchState,
-        member: &RunningSentinel<J, S>,
-        seat: &mut ThreadSeat<J>,
+        turns: &mut Turns<'_, R, J, S>,
         event: Event,
     ) -> bool
         requires within { IsWithinEvent event }
         requires told { MayTake J.told event }
     {
         if let Some(master) = found_down(&event) {
-            seat.look_ahead(master, self.pace.tick_due);
+            turns.seat.look_ahead(master, self.pace.tick_due);
         }
-        let by = hearer(member, state.run.clock.now(rt));
-        self.note_heard(&member.noting(rt), by, &event);
+        let by = hearer(turns.member, turns.now());
+        self.note_heard(&turns.member.noting(turns.rt), by, &event);
         let event = without_name::<J>(self.far.alloc(), event);
-        let mut outlet = self.far.outlet(rt);
-        let goes_on = hear_near(rt, state, member, seat, &mut outlet, (by.known, event));
-        self.hold(rt, state, member, seat);
+        let mut outlet = self.far.outlet(turns.rt);
+        let goes_on = hear_near(
+            turns.rt,
+            turns.state,
+            turns.member,
+            turns.seat,
+            &mut outlet,
+            (by.known, event),
+        );
+        self.hold(turns);
         goes_on
     }
 
@@ -194,42 +209,35 @@ impl<J: Which> TickLoop<J> {
     /// goes on. It is lost where too many are kept.
     fn hear_or_keep<S: ConfStore, R: Wait + Clock + Log>(
         &mut self,
-        rt: &R,
-        state: &WatchState,
-        member: &RunningSentinel<J, S>,
-        seat: &mut ThreadSeat<J>,
+        turns: &mut Turns<'_, R, J, S>,
         event: Event,
     ) -> bool
         requires within { IsWithinEvent event }
         requires told { MayTake J.told event }
     {
-        if may_be_stored(&event) && self.pace.is_late(state.run.clock.now(rt)) {
+        if may_be_stored(&event) && self.pace.is_late(turns.now()) {
             if self.later.len() < LATER_MAX {
-                drop(self.later.push(Hearing::of(event)));
+                drop(self.later.push_back(Hearing::of(event)));
             }
             return true;
         }
-        self.hear_one(rt, state, member, seat, event)
+        self.hear_one(turns, event)
     }
 
     /// Has the Sentinel take what it kept for later, once it has ticked or ticks aren't late: whether it goes on.
     fn hear_kept<S: ConfStore, R: Wait + Clock + Log>(
         &mut self,
-        rt: &R,
-        state: &WatchState,
-        member: &RunningSentinel<J, S>,
-        seat: &mut ThreadSeat<J>,
+        turns: &mut Turns<'_, R, J, S>,
     ) -> bool {
         for _ in 0..EVENTS_MAX {
-            if self.later.is_empty() {
+            if !self.has_ticked && self.pace.is_late(turns.now()) {
+                return true;
+            }
+            let Some(hearing) = self.later.pop_front() else {
                 self.has_ticked = false;
                 return true;
-            }
-            if !self.has_ticked && self.pace.is_late(state.run.clock.now(rt)) {
-                return true;
-            }
-            let event = self.later.remove(0).into_event();
-            if !self.hear_one(rt, state, member, seat, event) {
+            };
+            if !self.hear_one(turns, hearing.into_event()) {
                 return false;
             }
         }
@@ -240,22 +248,19 @@ impl<J: Which> TickLoop<J> {
     /// for no other: whether it goes on.
     fn hear_all<S: ConfStore, R: Wait + Clock + Log>(
         &mut self,
-        rt: &R,
-        state: &WatchState,
-        member: &RunningSentinel<J, S>,
-        seat: &mut ThreadSeat<J>,
+        turns: &mut Turns<'_, R, J, S>,
         millis: u64,
     ) -> bool {
-        if !self.hear_kept(rt, state, member, seat) {
+        if !self.hear_kept(turns) {
             return false;
         }
         let mut wait = millis;
         for _ in 0..EVENTS_MAX {
-            let Some(event) = self.far.next(rt, wait) else {
+            let Some(event) = self.far.next(turns.rt, wait) else {
                 return true;
             };
             wait = 0;
-            if !self.hear_or_keep(rt, state, member, seat, event) {
+            if !self.hear_or_keep(turns, event) {
                 return false;
             }
         }
@@ -264,8 +269,7 @@ impl<J: Which> TickLoop<J> {
 
     /// A turn ended: whether the connections, or all of the program, stood still before it is kept. A long store alone
     /// is no such time: what was heard meanwhile waits, and is heard before the ticks.
-    fn end_turn<R: Clock>(&mut self, rt: &R, state: &WatchState) {
-        let now = state.run.clock.now(rt);
+    fn end_turn(&mut self, state: &WatchState, now: u64) {
         let turned = state.turned.load(Ordering::SeqCst);
         let stood = state.stood.load(Ordering::SeqCst);
         let both = self.pace.stood_still(now) && self.pace.turned <= stood;
@@ -276,17 +280,14 @@ impl<J: Which> TickLoop<J> {
     /// Hears until the ticks are due, which may come to be later meanwhile: whether it goes on.
     fn hear_until_due<S: ConfStore, R: Wait + Clock + Log>(
         &mut self,
-        rt: &R,
-        state: &WatchState,
-        member: &RunningSentinel<J, S>,
-        seat: &mut ThreadSeat<J>,
+        turns: &mut Turns<'_, R, J, S>,
     ) -> bool {
         for _ in 0..u64::MAX {
-            let left = self.pace.until_tick(state.run.clock.now(rt));
-            if !self.hear_all(rt, state, member, seat, left.min(WAIT_MAX_MS)) {
+            let left = self.pace.until_tick(turns.now());
+            if !self.hear_all(turns, left.min(WAIT_MAX_MS)) {
                 return false;
             }
-            self.end_turn(rt, state);
+            self.end_turn(turns.state, turns.now());
             if left == 0 {
                 return true;
             }
@@ -297,24 +298,22 @@ impl<J: Which> TickLoop<J> {
     /// Ticks each master, and plans the next ticks: whether the Sentinel goes on.
     fn tick<S: ConfStore, R: Wait + Clock + Log>(
         &mut self,
-        rt: &R,
-        state: &WatchState,
-        member: &RunningSentinel<J, S>,
-        seat: &mut ThreadSeat<J>,
+        turns: &mut Turns<'_, R, J, S>,
     ) -> bool {
-        let began = state.run.clock.now(rt);
+        let (rt, member, began) = (turns.rt, turns.member, turns.now());
         let mut outlet = self.far.outlet(rt);
+        let run = &turns.state.run;
         let goes_on = self
             .ticker
-            .tick_all(rt, &state.run, member, seat, &mut outlet);
+            .tick_all(rt, run, member, turns.seat, &mut outlet);
         self.stood_still = false;
         self.has_ticked = true;
-        self.pace.plan_tick(began, lot(rt, state));
-        if seat.is_switching() {
+        self.pace.plan_tick(began, turns.lot());
+        if turns.seat.is_switching() {
             self.pace.hurry(began);
         }
-        self.hold(rt, state, member, seat);
-        let now = state.run.clock.now(rt);
+        self.hold(turns);
+        let now = turns.now();
         self.pace.turn(now);
         self.hellos.look(&member.noting(rt), member.roster(), now);
         if let Some(request) = member.take_far(rt) {
@@ -329,21 +328,18 @@ impl<J: Which> TickLoop<J> {
     /// always late it would never tick else.
     fn turn<S: ConfStore, R: Wait + Clock + Log>(
         &mut self,
-        rt: &R,
-        state: &WatchState,
-        member: &RunningSentinel<J, S>,
-        seat: &mut ThreadSeat<J>,
+        turns: &mut Turns<'_, R, J, S>,
     ) -> bool {
-        if !self.hear_until_due(rt, state, member, seat) {
+        if !self.hear_until_due(turns) {
             return false;
         }
         if self.stood_still {
-            self.pace.tick_due = state.run.clock.now(rt).saturating_add(CATCH_UP_MS);
-            if !self.hear_until_due(rt, state, member, seat) {
+            self.pace.tick_due = turns.now().saturating_add(CATCH_UP_MS);
+            if !self.hear_until_due(turns) {
                 return false;
             }
         }
-        self.tick(rt, state, member, seat)
+        self.tick(turns)
     }
 
     /// Has the Sentinel take what its connections hear, and ticks each master 50 to 100 ms after its last tick, or 20
@@ -355,11 +351,17 @@ impl<J: Which> TickLoop<J> {
         member: &RunningSentinel<J, S>,
         seat: &mut ThreadSeat<J>,
     ) {
+        let mut turns = Turns {
+            rt,
+            state,
+            member,
+            seat,
+        };
         for _ in rt.forever() {
             if state.ending.load(Ordering::SeqCst) != 0 || state.run.has(RunFault::Halted) {
                 return;
             }
-            if !self.turn(rt, state, member, seat) {
+            if !self.turn(&mut turns) {
                 return;
             }
         }
