@@ -6,10 +6,22 @@ use std::alloc::Global;
 use std::io;
 use std::net::{Ipv4Addr, Net, OpenListener, SocketAddr, TcpListener};
 
+/// Who listens at a port of this machine, whichever it is.
+pub(crate) fn listening<R: Net>(rt: &R) -> io::Result<R::Listener> {
+    TcpListener::bind(rt, SocketAddr::from((Ipv4Addr::LOCALHOST, 0)))
+}
+
 /// A port of this machine that nobody has now.
 pub(crate) fn free_port<R: Net>(rt: &R) -> io::Result<u16> {
-    let any = SocketAddr::from((Ipv4Addr::LOCALHOST, 0));
-    Ok(TcpListener::bind(rt, any)?.local_addr()?.port())
+    Ok(listening(rt)?.local_addr()?.port())
+}
+
+/// Two of them, the lower one first.
+pub(crate) fn free_ports<R: Net>(rt: &R) -> io::Result<(u16, u16)> {
+    // (both are held until both are had, so they differ)
+    let (one, other) = (listening(rt)?, listening(rt)?);
+    let (one, other) = (one.local_addr()?.port(), other.local_addr()?.port());
+    Ok((one.min(other), one.max(other)))
 }
 
 /// The conf of a Sentinel that is alone: one master at 6379 with a replica at 6380.
@@ -21,6 +33,19 @@ sentinel monitor mymaster 127.0.0.1 6379 1\n\
 sentinel down-after-milliseconds mymaster 3000\n\
 sentinel known-replica mymaster 127.0.0.1 6380\n"
     )?)
+}
+
+/// The conf of a group whose master and replica are at these ports.
+pub(crate) fn nodes_at(alloc: Global, ports: (u16, u16)) -> Option<Conf> {
+    let (master, replica) = ports;
+    let text: String = format!(in alloc;
+        "port 26379\n\
+sentinel myid aaaaaaaaaaaaaaaaaaaaaaaaaaaaaaaaaaaaaaaa\n\
+sentinel monitor mymaster 127.0.0.1 {master} 1\n\
+sentinel known-replica mymaster 127.0.0.1 {replica}\n"
+    )
+    .ok()?;
+    read(alloc, text.as_bytes()).ok()
 }
 
 /// One Sentinel of a pair that watch one master with a replica.

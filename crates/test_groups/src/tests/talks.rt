@@ -2,9 +2,9 @@
 
 ghost use Rattle.std.specs.Prelude.{◌≡◌, All, IfSome};
 
-use crate::tests::clients::{MASTER, REPLICAS, SENTINELS, connected, shows_down};
+use crate::tests::clients::{MASTER, REPLICAS, SENTINELS, connected, waits_for};
 use crate::tests::confs::{Paired, both_of, free_port};
-use crate::tests::told_files::{MOST_LOOKS, Told, ToldFile, wait_for};
+use crate::tests::told_files::{Told, ToldFile, wait_for};
 use client_port::ReadsTimes;
 use log::Log;
 use sentinel_conf::Conf;
@@ -17,7 +17,6 @@ use std::sync::Wait;
 use std::sync::atomic::{AtomicU64, Ordering};
 use std::test::Fail;
 use std::thread::{self, Threads};
-use std::time::Duration;
 
 /// What was seen of a group.
 #[derive(Clone, Copy, Debug, PartialEq, Eq)]
@@ -30,29 +29,16 @@ struct Seen {
     replied: (bool, bool, bool),
 }
 
-/// Waits for an answer that shows a node that is down, or one that doesn't.
-fn waits_for<R: Clock, T: Read + Write>(
-    rt: &R,
-    stream: &mut T,
-    command: &[u8],
-    down: bool,
-) -> io::Result<bool> {
-    for _ in 0..MOST_LOOKS {
-        if shows_down(stream, command)? == down {
-            return Ok(true);
-        }
-        thread::sleep(rt, Duration::from_millis(1));
-    }
-    Ok(false)
-}
-
 /// Waits until a node is down, and then until it isn't.
 fn comes_back<R: Clock, T: Read + Write>(
     rt: &R,
     stream: &mut T,
     command: &[u8],
 ) -> io::Result<bool> {
-    Ok(waits_for(rt, stream, command, true)? && waits_for(rt, stream, command, false)?)
+    Ok(
+        waits_for(rt, stream, command, "s_down", true)?
+            && waits_for(rt, stream, command, "s_down", false)?,
+    )
 }
 
 /// Looks at a group by the files of its Sentinels, and by a client of the first one.

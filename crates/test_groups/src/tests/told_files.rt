@@ -11,13 +11,16 @@ use std::thread;
 use std::time::Duration;
 
 /// How often a thread looks for what another one does, a millisecond apart.
-pub(crate) const MOST_LOOKS: u32 = 10_000;
+pub(crate) const MOST_LOOKS: u32 = 30_000;
 
-/// The greatest epochs that a file got.
+/// The greatest epochs that a file got, and the port of the master that it got last. Once `refuses` isn't 0, the file
+/// takes no text any more.
 #[derive(Drop)]
 pub(crate) struct Told {
     pub(crate) current: AtomicU64,
     pub(crate) voted: AtomicU64,
+    pub(crate) master: AtomicU64,
+    pub(crate) refuses: AtomicU64,
 }
 
 impl Told {
@@ -26,16 +29,20 @@ impl Told {
         Told {
             current: AtomicU64::new(0),
             voted: AtomicU64::new(0),
+            master: AtomicU64::new(0),
+            refuses: AtomicU64::new(0),
         }
     }
 
-    /// Notes the epochs of a text.
+    /// Notes what a text says.
     fn note(&self, alloc: Global, text: &[u8]) {
         if let Ok(conf) = read(alloc, text) {
             self.current
                 .fetch_max(conf.kept().current, Ordering::SeqCst);
             for master in conf.kept().masters.as_slice() {
                 self.voted.fetch_max(master.voted, Ordering::SeqCst);
+                self.master
+                    .store(u64::from(master.card.addr.port), Ordering::SeqCst);
             }
         }
     }
@@ -63,7 +70,7 @@ fn voted(alloc: Global, text: &[u8]) -> u64 {
     greatest
 }
 
-/// A file that tells the epochs of what is written. Where it is held, a write waits until its number has come up to the
+/// A file that tells what is written. Where it is held, a write waits until its number has come up to the
 /// epoch of the vote that is written, and is refused where it doesn't.
 #[derive(Drop)]
 pub(crate) struct ToldFile<'a, R: Clock> {
@@ -89,6 +96,33 @@ impl<'a, R: Clock> ToldFile<'a, R> {
             held,
         })
     }
+
+    /// A file that holds this text.
+    pub(crate) fn holding(
+        alloc: Global,
+        told: &'a Told,
+        text: &[u8],
+    ) -> Result<ToldFile<'a, R>, NoMemory>
+        ensures { IfOk result (λ file. file.file.failed ≡ 0) }
+    {
+        Ok(ToldFile {
+            file: MemoryStore::holding(alloc, text)?,
+            alloc,
+            told,
+            held: None,
+        })
+    }
+
+    /// Whether this text is refused.
+    fn is_refused(&self, text: &[u8]) -> bool {
+        if self.told.refuses.load(Ordering::SeqCst) != 0 {
+            return true;
+        }
+        match self.held {
+            Some((rt, number)) => !wait_for(rt, number, voted(self.alloc, text)),
+            None => false,
+        }
+    }
 }
 
 impl<'a, R: Clock> ConfStore for ToldFile<'a, R> {
@@ -99,12 +133,11 @@ impl<'a, R: Clock> ConfStore for ToldFile<'a, R> {
     }
 
     fn replace(&mut self, text: &[u8]) -> Result<(), StoreRefused> {
-        if let Some((rt, number)) = self.held {
-            if !wait_for(rt, number, voted(self.alloc, text)) {
-                self.file.refuse_next(false);
-            }
+        if self.is_refused(text) {
+            self.file.refuse_next(false);
+        } else {
+            self.told.note(self.alloc, text);
         }
-        self.told.note(self.alloc, text);
         self.file.replace(text)
     }
 
