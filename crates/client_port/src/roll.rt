@@ -131,7 +131,6 @@ impl Roll {
             commands: seats.answered(),
             user_time: self.times.user,
             system_time: self.times.system,
-            tilt: member.tilted_for(now),
         };
     }
 
