@@ -17,7 +17,7 @@ use Rattle.sentinel_core.specs.declared.serving.fault.ServeFault.{ServeFault}
 use Rattle.sentinel_core.specs.declared.serving.fault.ServeFault.TheVariants.{Frame as FaultyFrame, Read, Write, Halted, NoMemory}
 use Rattle.sentinel_core.specs.Serving.Serving.{last_line}
 use Rattle.port_sessions.specs.Notes.{none_told}
-use Rattle.port_sessions.specs.Talks.{Party, party, Responds, Fails}
+use Rattle.port_sessions.specs.Talks.{Party, party, Responds, BeginsNotes, Fails}
 use Rattle.resp2.specs.Commands.{redis_command_of}
 use Rattle.resp2.specs.declared.framing.fault.FrameFault.{FrameFault}
 use Rattle.resp2.specs.Framing.Frame.{Frame, spelling, spellings}
@@ -121,14 +121,9 @@ module _ (start : World) (now : ℕ) where
   Answers asker asks_masters p value bytes q = TellsInfo asker.port.figures p value bytes q
   Answers asker silent p value bytes q = (bytes ≡ []) × (q ≡ p)
 
-  -- the session below begins to listen to notes where it doesn't: it is asked SUBSCRIBE, whose answer isn't told
-  abbrev pub BeginsNotes : Option ℕ → Party → Party → Type 0
-  BeginsNotes None p q = (confirmation : List ℕ) × Responds start now p (Ok Subscribe) confirmation q
-  BeginsNotes (Some entry) p q = q ≡ p
-
   -- it listens to notes where the connection hears of new addresses, and else to nothing
   abbrev pub Tunes : (hears : Bool) → Party → Party → Type 0
-  Tunes true p q = BeginsNotes p.listens p q
+  Tunes true p q = BeginsNotes start now p.listens p q
   Tunes false p q = q ≡ party p.view None
 
   -- The answer to a value by what Pub/Sub makes of it. Where that is nothing, a courtesy or the session below answers it, and it changes nothing of what the

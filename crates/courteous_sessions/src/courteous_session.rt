@@ -43,15 +43,15 @@ impl Model for CourteousSession {
       asker = session.exchange.attendant.asker;
       knows_masters = session.exchange.knows_masters;
       held = bytes_in session.exchange.attendant.held;
-      unsent = session.exchange.unsent.items;
+      unsent = session.exchange.responder.unsent.items;
       ended = session.fault;
       listening = session.exchange.subscriptions;
-      listens = session.exchange.session.listens;
-      told = session.exchange.session.told;
+      listens = session.exchange.responder.hears.listens;
+      told = session.exchange.responder.hears.told;
     } };
 
-    ghost invariant = { λ session. IsReady session.exchange.attendant session.exchange.subscriptions session.exchange.session
-        × IsEmptied session.fault (bytes_in session.exchange.attendant.held) session.exchange.session.listens
+    ghost invariant = { λ session. IsReady session.exchange.attendant session.exchange.subscriptions session.exchange.responder.hears
+        × IsEmptied session.fault (bytes_in session.exchange.attendant.held) session.exchange.responder.hears.listens
         × IsSilenced session.fault session.exchange.subscriptions };
 }
 
@@ -226,7 +226,7 @@ impl CourteousSession {
     pub fn unsent(&self) -> &[u8]
         ensures { result.now ≡ self.now.unsent }
     {
-        self.exchange.unsent()
+        self.exchange.responder.unsent()
     }
 
     /// Whether all that came was whole values: no bytes are held.
@@ -256,7 +256,7 @@ impl CourteousSession {
         requires { n ≤ length self.old.unsent }
         ensures { self.new ≡ record self.old { unsent = drop n self.old.unsent } }
     {
-        self.exchange.sent(n);
+        self.exchange.responder.sent(n);
     }
 
     /// Gives back the room in which nothing is held, as where its client is silent for a while; the next answer takes

@@ -45,8 +45,8 @@ impl Exchange {
             → limit.new.mark ≡ reading (bytes_in self.old.attendant.held) }
         ensures no { result ≡ false → (may_store asked.now ≡ true) × (limit.old.most ≡ 0) × (self.new.attendant.held ≡ limit.old.mark) }
         ensures asker { self.new.attendant.asker ≡ self.old.attendant.asker }
-        ensures session { self.new.session ≡ self.old.session }
-        ensures unsent { self.new.unsent ≡ self.old.unsent }
+        ensures hears { self.new.responder.hears ≡ self.old.responder.hears }
+        ensures unsent { self.new.responder.unsent.items ≡ self.old.responder.unsent.items }
         ensures kept { (self.new.knows_masters ≡ self.old.knows_masters) × (self.new.subscriptions ≡ self.old.subscriptions) }
     {
         if limit.allows(asked) {
@@ -64,8 +64,8 @@ impl Exchange {
         ensures ahead { TakesAhead self.old.attendant.asker self.old.subscriptions limit.old.most self.old.attendant.held result limit.new.most limit.new.mark
             self.new.attendant.held }
         ensures asker { self.new.attendant.asker ≡ self.old.attendant.asker }
-        ensures session { self.new.session ≡ self.old.session }
-        ensures unsent { self.new.unsent ≡ self.old.unsent }
+        ensures hears { self.new.responder.hears ≡ self.old.responder.hears }
+        ensures unsent { self.new.responder.unsent.items ≡ self.old.responder.unsent.items }
         ensures kept { (self.new.knows_masters ≡ self.old.knows_masters) × (self.new.subscriptions ≡ self.old.subscriptions) }
     {
         let Some(command) = self.next_common() else {
@@ -84,8 +84,8 @@ impl Exchange {
         ensures ahead { TakesAhead self.old.attendant.asker self.old.subscriptions limit.old.most self.old.attendant.held result limit.new.most limit.new.mark
             self.new.attendant.held }
         ensures asker { self.new.attendant.asker ≡ self.old.attendant.asker }
-        ensures session { self.new.session ≡ self.old.session }
-        ensures unsent { self.new.unsent ≡ self.old.unsent }
+        ensures hears { self.new.responder.hears ≡ self.old.responder.hears }
+        ensures unsent { self.new.responder.unsent.items ≡ self.old.responder.unsent.items }
         ensures kept { (self.new.knows_masters ≡ self.old.knows_masters) × (self.new.subscriptions ≡ self.old.subscriptions) }
     {
         match self.attendant.next() {
@@ -111,18 +111,18 @@ impl Exchange {
         limit: &mut Limit,
     ) -> Result<Option<Reach>, ServeFault>
         requires own { seat.old.cell ≡ cell.now.id }
-        requires ready { IsReady self.old.attendant self.old.subscriptions self.old.session }
+        requires ready { IsReady self.old.attendant self.old.subscriptions self.old.responder.hears }
         requires mark { limit.old.mark ≡ self.old.attendant.held }
         ensures own { seat.new.cell ≡ seat.old.cell }
-        ensures ready { OnOk result (IsReady self.new.attendant self.new.subscriptions self.new.session) }
+        ensures ready { OnOk result (IsReady self.new.attendant self.new.subscriptions self.new.responder.hears) }
         ensures knows { self.new.knows_masters ≡ self.old.knows_masters }
         ensures mark { result ≡ Ok None → limit.new.mark ≡ self.new.attendant.held }
         ensures smaller { result ≡ Ok None → held_size self.new.attendant.held < held_size self.old.attendant.held }
-        ensures answered { (most : ℕ) (stream before bytes : List ℕ) (g : Guest) → self.old.unsent.items ≡ before ++ bytes
+        ensures answered { (most : ℕ) (stream before bytes : List ℕ) (g : Guest) → self.old.responder.unsent.items ≡ before ++ bytes
             → IsWithin cell.now.start now most stream g limit.old.most self.old.attendant.held bytes
-            (guest_of self.old.attendant self.old.subscriptions self.old.session seat.old.view) → (more : List ℕ) × (self.new.unsent.items ≡ before ++ more)
+            (guest_of self.old.attendant self.old.subscriptions self.old.responder.hears seat.old.view) → (more : List ℕ) × (self.new.responder.unsent.items ≡ before ++ more)
             × StepsWithin cell.now.start now most stream g result limit.new.most self.new.attendant.held more
-            (guest_of self.new.attendant self.new.subscriptions self.new.session seat.new.view) }
+            (guest_of self.new.attendant self.new.subscriptions self.new.responder.hears seat.new.view) }
     {
         match self.next_within(limit) {
             Ok(NextValue::Common(command)) => match self.tell_common(rt, cell, seat, now, command) {
@@ -135,7 +135,7 @@ impl Exchange {
             },
             Ok(NextValue::PutOff) => Ok(Some(Reach::Waits)),
             Ok(NextValue::Short) => Ok(Some(Reach::Done)),
-            Err(fault) => Err(self.refuse(fault)),
+            Err(fault) => Err(self.responder.refuse(fault)),
         }
     }
 
@@ -149,16 +149,16 @@ impl Exchange {
         limit: &mut Limit,
     ) -> Result<Reach, ServeFault>
         requires own { seat.old.cell ≡ cell.now.id }
-        requires ready { IsReady self.old.attendant self.old.subscriptions self.old.session }
+        requires ready { IsReady self.old.attendant self.old.subscriptions self.old.responder.hears }
         requires mark { limit.old.mark ≡ self.old.attendant.held }
         ensures own { seat.new.cell ≡ seat.old.cell }
-        ensures ready { OnOk result (IsReady self.new.attendant self.new.subscriptions self.new.session) }
+        ensures ready { OnOk result (IsReady self.new.attendant self.new.subscriptions self.new.responder.hears) }
         ensures knows { self.new.knows_masters ≡ self.old.knows_masters }
-        ensures answered { (most : ℕ) (stream before bytes : List ℕ) (g : Guest) → self.old.unsent.items ≡ before ++ bytes
+        ensures answered { (most : ℕ) (stream before bytes : List ℕ) (g : Guest) → self.old.responder.unsent.items ≡ before ++ bytes
             → IsWithin cell.now.start now most stream g limit.old.most self.old.attendant.held bytes
-            (guest_of self.old.attendant self.old.subscriptions self.old.session seat.old.view) → (more : List ℕ) × (self.new.unsent.items ≡ before ++ more)
+            (guest_of self.old.attendant self.old.subscriptions self.old.responder.hears seat.old.view) → (more : List ℕ) × (self.new.responder.unsent.items ≡ before ++ more)
             × DrainsWithin cell.now.start now most stream g result self.new.attendant.held more
-            (guest_of self.new.attendant self.new.subscriptions self.new.session seat.new.view) }
+            (guest_of self.new.attendant self.new.subscriptions self.new.responder.hears seat.new.view) }
     {
         loop {
             match self.go_on_next(rt, cell, seat, now, limit) {
@@ -176,8 +176,8 @@ impl Exchange {
         ensures fed { OnOk result (self.new.attendant.held ≡ reading (bytes_in self.old.attendant.held ++ piece.now)) }
         ensures limit { IfOk result (λ limit. (limit.mark ≡ self.new.attendant.held) × (limit.most ≡ most)) }
         ensures asker { self.new.attendant.asker ≡ self.old.attendant.asker }
-        ensures session { self.new.session ≡ self.old.session }
-        ensures unsent { self.new.unsent ≡ self.old.unsent }
+        ensures hears { self.new.responder.hears ≡ self.old.responder.hears }
+        ensures unsent { self.new.responder.unsent.items ≡ self.old.responder.unsent.items }
         ensures kept { (self.new.knows_masters ≡ self.old.knows_masters) × (self.new.subscriptions ≡ self.old.subscriptions) }
     {
         if self.attendant.feed(piece).is_err() {
@@ -197,15 +197,15 @@ impl Exchange {
         most: u64,
     ) -> Result<Reach, ServeFault>
         requires own { seat.old.cell ≡ cell.now.id }
-        requires ready { IsReady self.old.attendant self.old.subscriptions self.old.session }
+        requires ready { IsReady self.old.attendant self.old.subscriptions self.old.responder.hears }
         ensures own { seat.new.cell ≡ seat.old.cell }
-        ensures ready { OnOk result (IsReady self.new.attendant self.new.subscriptions self.new.session) }
+        ensures ready { OnOk result (IsReady self.new.attendant self.new.subscriptions self.new.responder.hears) }
         ensures knows { OnOk result (self.new.knows_masters ≡ true) }
-        ensures received { (more : List ℕ) × (self.new.unsent.items ≡ self.old.unsent.items ++ more)
+        ensures received { (more : List ℕ) × (self.new.responder.unsent.items ≡ self.old.responder.unsent.items ++ more)
             × GoesOn cell.now.start now most (bytes_in self.old.attendant.held ++ piece.now)
-            (guest (party seat.old.view self.old.session.listens) self.old.subscriptions self.old.session.told
+            (guest (party seat.old.view self.old.responder.hears.listens) self.old.subscriptions self.old.responder.hears.told
             (introduced cell.now.start self.old.knows_masters self.old.attendant.asker)) result (bytes_in self.new.attendant.held) more
-            (guest_of self.new.attendant self.new.subscriptions self.new.session seat.new.view) }
+            (guest_of self.new.attendant self.new.subscriptions self.new.responder.hears seat.new.view) }
     {
         if self.learn_masters(cell).is_err() {
             return Err(ServeFault::NoMemory);

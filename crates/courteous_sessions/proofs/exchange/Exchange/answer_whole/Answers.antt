@@ -17,7 +17,7 @@ loop-self-preserved g c =
             next.0,
             next.1,
             went_on start c.args.now stream visitor c.in-Ok-true.field-0 after.self.attendant.held next.0
-                (guest_of after.self.attendant after.self.subscriptions after.self.session after.seat.view) c.in-Ok-true.field-0-test next.2,
+                (guest_of after.self.attendant after.self.subscriptions after.self.responder.hears after.seat.view) c.in-Ok-true.field-0-test next.2,
           ),
     )
 
@@ -30,7 +30,7 @@ returns-in-Ok-false-clause-answered g c = λ stream before bytes visitor is a.
       next.0,
       next.1,
       came_to_the_end start c.args.now stream visitor c.in-Ok-false.field-0 after.self.attendant.held next.0
-          (guest_of after.self.attendant after.self.subscriptions after.self.session after.seat.view) c.in-Ok-false.field-0-test next.2,
+          (guest_of after.self.attendant after.self.subscriptions after.self.responder.hears after.seat.view) c.in-Ok-false.field-0-test next.2,
     )
 
 pub returns-in-Err-clause-answered : goal.returns-in-Err-clause-answered

@@ -16,12 +16,12 @@ returns-in_ok-answer_beside-in-Ok-clause-served g c =
     let known = noted mid.attendant after.attendant l mid.subscriptions (asker_after before.attendant.asker value) c.note_listening.ensures.attendant
     c.answer_beside.ensures.kept.1 (c.answer_beside.ensures.same.asker ∙ c.in-Ok.ensures.asker)
     in
-    rw (c.note_listening.ensures.session, c.note_listening.ensures.unsent, c.note_listening.ensures.kept.1)
-    (answered_beside c.args.cell.now.start c.args.now before.attendant after.attendant l mid.subscriptions before.session mid.session
-    c.args.seat.now.view c.answer_beside.new.seat.view value before.unsent.items mid.unsent.items c.requires.ready c.requires.other known.0 known.1
-    (known.2 ∙ c.answer_beside.ensures.same.held ∙ c.attend_to.ensures.held) c.answer_beside.ensures.session c.answer_beside.ensures.kept.1
-    (asked_beside c.args.cell.now.start c.args.now before.attendant.asker c.attend_to.new.self.asker value (courtesy before.attendant.asker value) before.unsent.items
-    mid.unsent.items c.args.seat.now.view c.answer_beside.new.seat.view c.in-Ok.ensures.asker
+    rw (c.note_listening.ensures.hears, c.note_listening.ensures.unsent, c.note_listening.ensures.kept.1)
+    (answered_beside c.args.cell.now.start c.args.now before.attendant after.attendant l mid.subscriptions before.responder.hears mid.responder.hears
+    c.args.seat.now.view c.answer_beside.new.seat.view value before.responder.unsent.items mid.responder.unsent.items c.requires.ready c.requires.other known.0 known.1
+    (known.2 ∙ c.answer_beside.ensures.same.held ∙ c.attend_to.ensures.held) c.answer_beside.ensures.hears c.answer_beside.ensures.kept.1
+    (asked_beside c.args.cell.now.start c.args.now before.attendant.asker c.attend_to.new.self.asker value (courtesy before.attendant.asker value) before.responder.unsent.items
+    mid.responder.unsent.items c.args.seat.now.view c.answer_beside.new.seat.view c.in-Ok.ensures.asker
     (c.in_ok-answer_beside-in-Ok.ensures.answered (courtesy before.attendant.asker value) c.in-Ok.ensures.kind c.in-Ok.ensures.text)))
 
 pub returns-in-Err-clause-fault : goal.returns-in-Err-clause-fault

@@ -17,7 +17,7 @@ loop-self-preserved g c =
             next.0,
             next.1,
             went_on c.args.cell.now.start c.args.now most stream visitor c.in-Ok-None.field-0 after.limit.most after.self.attendant.held next.0
-                (guest_of after.self.attendant after.self.subscriptions after.self.session after.seat.view) c.in-Ok-None.field-0-is next.2,
+                (guest_of after.self.attendant after.self.subscriptions after.self.responder.hears after.seat.view) c.in-Ok-None.field-0-is next.2,
           ),
     )
 
@@ -29,7 +29,7 @@ returns-in-Ok-Some-clause-answered g c = λ most stream before bytes visitor is 
       next.0,
       next.1,
       stopped c.args.cell.now.start c.args.now most stream visitor c.in-Ok-Some.field-0 c.in-Ok-Some.progress after.limit.most after.self.attendant.held next.0
-          (guest_of after.self.attendant after.self.subscriptions after.self.session after.seat.view) c.in-Ok-Some.field-0-is next.2,
+          (guest_of after.self.attendant after.self.subscriptions after.self.responder.hears after.seat.view) c.in-Ok-Some.field-0-is next.2,
     )
 
 pub returns-in-Err-clause-answered : goal.returns-in-Err-clause-answered

@@ -10,19 +10,19 @@ pub returns-then-is_err-clause-received : goal.returns-then-is_err-clause-receiv
 returns-then-is_err-clause-received g c =
     let before = c.args.self.now in
     let none = none_taken c.args.cell.now.start c.args.now c.args.most (bytes_in before.attendant.held ++ c.args.piece.now)
-    (guest (party c.args.seat.now.view before.session.listens) before.subscriptions before.session.told (introduced c.args.cell.now.start before.knows_masters
-    before.attendant.asker)) before.unsent.items
+    (guest (party c.args.seat.now.view before.responder.hears.listens) before.subscriptions before.responder.hears.told (introduced c.args.cell.now.start before.knows_masters
+    before.attendant.asker)) before.responder.unsent.items
     in
-    (none.0, ap (λ u. u.items) c.learn_masters.ensures.unsent ∙ none.1, none.2)
+    (none.0, c.learn_masters.ensures.unsent ∙ none.1, none.2)
 
 pub returns-in_default-clause-received : goal.returns-in_default-clause-received
 returns-in_default-clause-received g c =
     let before = c.args.self.now in
     let none = none_taken c.args.cell.now.start c.args.now c.args.most (bytes_in before.attendant.held ++ c.args.piece.now)
-    (guest (party c.args.seat.now.view before.session.listens) before.subscriptions before.session.told (introduced c.args.cell.now.start before.knows_masters
-    before.attendant.asker)) before.unsent.items
+    (guest (party c.args.seat.now.view before.responder.hears.listens) before.subscriptions before.responder.hears.told (introduced c.args.cell.now.start before.knows_masters
+    before.attendant.asker)) before.responder.unsent.items
     in
-    (none.0, ap (λ u. u.items) (c.feed_within.ensures.unsent ∙ c.learn_masters.ensures.unsent) ∙ none.1, none.2)
+    (none.0, (c.feed_within.ensures.unsent ∙ c.learn_masters.ensures.unsent) ∙ none.1, none.2)
 
 pub returns-clause-received : goal.returns-clause-received
 returns-clause-received g c =
@@ -31,8 +31,8 @@ returns-clause-received g c =
     let fed = c.feed_within.new.self in
     let after = c.go_on_whole.new.self in
     piece_within c.args.cell.now.start c.args.now c.args.most c.in-Ok.limit.most c.go_on_whole.result before.attendant known.attendant fed.attendant after.attendant
-    before.subscriptions fed.subscriptions after.subscriptions before.knows_masters c.args.piece.now before.unsent.items fed.unsent.items after.unsent.items before.session
-    fed.session after.session c.args.seat.now.view c.go_on_whole.new.seat.view
+    before.subscriptions fed.subscriptions after.subscriptions before.knows_masters c.args.piece.now before.responder.unsent.items fed.responder.unsent.items after.responder.unsent.items before.responder.hears
+    fed.responder.hears after.responder.hears c.args.seat.now.view c.go_on_whole.new.seat.view
     (ok_of c.learn_masters.result (sym c.is_err.ensures.value ∙ c.if-is_err.false) c.learn_masters.ensures.attendant) c.feed_within.ensures.asker c.in-Ok.ensures.fed
-    c.in-Ok.ensures.limit.1 (ap (λ u. u.items) (c.feed_within.ensures.unsent ∙ c.learn_masters.ensures.unsent))
-    (c.feed_within.ensures.session ∙ c.learn_masters.ensures.session.0) (c.feed_within.ensures.kept.1 ∙ c.learn_masters.ensures.session.1) c.go_on_whole.ensures.answered
+    c.in-Ok.ensures.limit.1 ((c.feed_within.ensures.unsent ∙ c.learn_masters.ensures.unsent))
+    (c.feed_within.ensures.hears ∙ c.learn_masters.ensures.hears.0) (c.feed_within.ensures.kept.1 ∙ c.learn_masters.ensures.hears.1) c.go_on_whole.ensures.answered
