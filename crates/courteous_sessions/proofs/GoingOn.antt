@@ -30,7 +30,7 @@ use Rattle.sentinel_cell.specs.declared.view.View.{View}
 use Rattle.sentinel_cell.specs.Histories.{World}
 use Rattle.courteous_sessions.specs.Epochs.{heard_as}
 use Rattle.courteous_sessions.specs.Stores.{value_may_store, stores_among, IsStoreNext}
-use Rattle.courteous_sessions.specs.Visits.{Guest, guest, introduced, IsUnanswered, Tells}
+use Rattle.courteous_sessions.specs.Visits.{Guest, guest, IsUnanswered, Tells}
 use Rattle.port_sessions.specs.OnTheWay.{Refuses}
 use Rattle.courteous_sessions.specs.OnTheWay.{IsReady, IsOnTheWay, RespondsIn, guest_of}
 use Rattle.courteous_sessions.specs.GoingOn.{IsWithin, IsCommonAhead, IsValueAhead, Stops, StepsWithin, DrainsWithin, BreaksWithin, GoesOn}
@@ -177,7 +177,7 @@ module _ (start : World) (now : ℕ) (most : ℕ) (stream : List ℕ) (g : Guest
       )
 
   -- a growth was refused before the next value
-  memory_cut : (more : ℕ) (held : Held) (bytes : List ℕ) (m : Guest) (fault : ServeFault) → IsWithin start now most stream g more held bytes m → fault ≡ OutOfMemory
+  pub memory_cut : (more : ℕ) (held : Held) (bytes : List ℕ) (m : Guest) (fault : ServeFault) → IsWithin start now most stream g more held bytes m → fault ≡ OutOfMemory
       → BreaksWithin start now most stream g fault bytes m.party.view
   memory_cut more held bytes m fault a is =
       let so_far = a.so_far in
@@ -331,29 +331,3 @@ module _ (start : World) (now : ℕ) (most : ℕ) (stream : List ℕ) (g : Guest
 pub first_within : (start : World) (now most : ℕ) (stream : List ℕ) (held : Held) (g : Guest) → held ≡ reading stream → IsWithin start now most stream g most held [] g
 first_within start now most stream held g is =
     record { so_far = record { values = []; rest = stream; held_is = is; parts = refl; answers = (refl, refl) }; count = omega arith }
-
--- all that may be answered of a piece was
-pub piece_within : (start : World) (now most limit : ℕ) (answer : Result Reach ServeFault) (before known fed after : Attendance) (l same_l later_l : Listening) (knows : Bool)
-    (piece : List ℕ) (unsent kept out : List ℕ) (hearing same later : Hearing) (v w : View)
-    → known ≡ record before { asker = introduced start knows before.asker } → fed.asker ≡ known.asker → fed.held ≡ reading (bytes_in known.held ++ piece) → limit ≡ most
-    → kept ≡ unsent → same ≡ hearing → same_l ≡ l
-    → ((most : ℕ) (stream first bytes : List ℕ) (g : Guest) → kept ≡ first ++ bytes → IsWithin start now most stream g limit fed.held bytes (guest_of fed same_l same v)
-    → (more : List ℕ) × (out ≡ first ++ more) × DrainsWithin start now most stream g answer after.held more (guest_of after later_l later w))
-    → (more : List ℕ) × (out ≡ unsent ++ more)
-    × GoesOn start now most (bytes_in before.held ++ piece) (guest (party v hearing.listens) l hearing.told (introduced start knows before.asker)) answer (bytes_in after.held) more
-    (guest_of after later_l later w)
-piece_within start now most limit answer before known fed after l same_l later_l knows piece unsent kept out hearing same later v w is_known asker held counts is_kept is_same is_l
-    drains =
-    let g = guest (party v hearing.listens) l hearing.told (introduced start knows before.asker) in
-    let stream = bytes_in before.held ++ piece in
-    let there : fed.held ≡ reading stream = held ∙ ap (λ (a : Attendance). reading (bytes_in a.held ++ piece)) is_known in
-    let first = first_within start now most stream fed.held g there in
-    let met : introduced start knows before.asker ≡ fed.asker = sym (asker ∙ ap (λ (a : Attendance). a.asker) is_known) in
-    let at_limit = subst (λ (n : ℕ). IsWithin start now most stream g n fed.held [] g) (sym counts) first in
-    let at_l = subst (λ (x : Listening). IsWithin start now most stream g limit fed.held [] (guest (party v hearing.listens) x hearing.told (introduced start knows before.asker)))
-    (sym is_l) at_limit
-    in
-    let met_there = subst (λ (x : ClientInfo). IsWithin start now most stream g limit fed.held [] (guest (party v hearing.listens) same_l hearing.told x)) met at_l in
-    let begins = subst (λ (t : Hearing). IsWithin start now most stream g limit fed.held [] (guest (party v t.listens) same_l t.told fed.asker)) (sym is_same) met_there in
-    let got = drains most stream unsent [] g (is_kept ∙ sym (append-nil unsent)) begins in
-    (got.0, got.1, was_taken start now most stream g answer after.held got.0 (guest_of after later_l later w) got.2)

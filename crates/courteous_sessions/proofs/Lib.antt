@@ -11,3 +11,5 @@ pub mod GoingOn
 pub mod Values
 pub mod Losing
 pub mod OwnWords
+pub mod StandIn
+pub mod InPlace

@@ -419,14 +419,6 @@ module _ (start : World) (now : ℕ) where
   came_to_the_end stream g true held bytes h is s = absurd (true≢false is)
   came_to_the_end stream g false held bytes h is s = s
 
-  -- the piece was added, and nothing was answered yet
-  pub begun : {X : Type 0} (answer : Result X FrameFault) (held after : Held) (piece : List ℕ) (g : Guest) → held ≡ reading (bytes_in held) → is_err answer ≡ false
-      → Feeds held piece answer after → IsOnTheWay start now (bytes_in held ++ piece) g after [] g
-  begun (Ok x) (reading bytes) after piece g is ok fed =
-      record { values = []; rest = bytes ++ piece; held_is = fed; parts = refl; answers = (refl, refl) }
-  begun (Err f) (reading bytes) after piece g is ok fed = absurd (true≢false ok)
-  begun answer (ended f) after piece g is ok fed = absurd (let no : ⊥ = cc in no)
-
   pub was_received : {X : Type 0} (answer : Result X ServeFault) (stream : List ℕ) (g : Guest) (held : Held) (bytes : List ℕ) (h : Guest)
       → Drains start now stream g answer held bytes h → Receives start now stream g answer (bytes_in held) bytes h
   was_received (Ok x) stream g held bytes h s = subst (λ (rest : List ℕ). IsAnswered start now stream g rest bytes h) (sym (ap bytes_in s.1)) s.2

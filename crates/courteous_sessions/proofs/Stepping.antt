@@ -39,7 +39,7 @@ use Rattle.client_commands.specs.declared.protocols.Protocol.{Protocol}
 use Rattle.client_commands.specs.declared.protocols.Protocol.TheVariants.{Two, Three}
 use Rattle.courteous_sessions.specs.OnTheWay.{IsReady, RespondsIn, BeginsWith, IsOnTheWay, Drains, guest_of}
 use Rattle.courteous_sessions.proofs.Keeping.{common_differs, common_shape, common_turn, common_answers}
-use Rattle.courteous_sessions.proofs.Serving.{was_read, responds_alike, heard_otherwise, ready_same, served_by_others, served_unheard, value_served, begun, was_received}
+use Rattle.courteous_sessions.proofs.Serving.{was_read, responds_alike, heard_otherwise, ready_same, served_by_others, served_unheard, value_served}
 
 pub on_ok : {X E A B : Type 0} (answer : Result X E) → (A → B) → OnOk answer A → OnOk answer B
 on_ok (Ok x) f h = f h
@@ -291,27 +291,3 @@ module _ (start : World) (now : ℕ) where
       → (more : List ℕ) × (put ≡ unsent ++ more) × Breaks start now stream g OutOfMemory more g.party.view
   cut_before stream g unsent put same =
       ([], same ∙ sym (append-nil unsent), record { values = []; rest = stream; parts = refl; last = g; answers = (refl, refl); sees = inl refl })
-
-  -- a piece was added, and all whole values were answered
-  pub piece_received : {X Y : Type 0} (fed : Result X FrameFault) (answer : Result Y ServeFault) (before known begins after : Attendance) (l same_l later_l : Listening)
-      (knows : Bool) (piece : List ℕ) (unsent kept out : List ℕ) (hearing same later : Hearing) (v w : View) → before.held ≡ reading (bytes_in before.held)
-      → known ≡ record before { asker = introduced start knows before.asker } → begins.asker ≡ known.asker → is_err fed ≡ false
-      → Feeds known.held piece fed begins.held → kept ≡ unsent → same ≡ hearing → same_l ≡ l
-      → ((stream first bytes : List ℕ) (g : Guest) → kept ≡ first ++ bytes → IsOnTheWay start now stream g begins.held bytes (guest_of begins same_l same v)
-      → (more : List ℕ) × (out ≡ first ++ more) × Drains start now stream g answer after.held more (guest_of after later_l later w))
-      → (more : List ℕ) × (out ≡ unsent ++ more)
-      × Receives start now (bytes_in before.held ++ piece) (guest (party v hearing.listens) l hearing.told (introduced start knows before.asker)) answer (bytes_in after.held) more
-      (guest_of after later_l later w)
-  piece_received fed answer before known begins after l same_l later_l knows piece unsent kept out hearing same later v w reads is_known asker ok feeds is_kept is_same is_l drains =
-      let g = guest (party v hearing.listens) l hearing.told (introduced start knows before.asker) in
-      let stream = bytes_in before.held ++ piece in
-      let fed_to = subst (λ (h : Held). Feeds h piece fed begins.held) (ap (λ (a : Attendance). a.held) is_known) feeds in
-      let first = begun start now fed before.held begins.held piece g reads ok fed_to in
-      let met : introduced start knows before.asker ≡ begins.asker = sym (asker ∙ ap (λ (a : Attendance). a.asker) is_known) in
-      let at_l = subst (λ (x : Listening). IsOnTheWay start now stream g begins.held [] (guest (party v hearing.listens) x hearing.told (introduced start knows before.asker)))
-      (sym is_l) first
-      in
-      let met_there = subst (λ (x : ClientInfo). IsOnTheWay start now stream g begins.held [] (guest (party v hearing.listens) same_l hearing.told x)) met at_l in
-      let there = subst (λ (t : Hearing). IsOnTheWay start now stream g begins.held [] (guest (party v t.listens) same_l t.told begins.asker)) (sym is_same) met_there in
-      let got = drains stream unsent [] g (is_kept ∙ sym (append-nil unsent)) there in
-      (got.0, got.1, was_received start now answer stream g after.held got.0 (guest_of after later_l later w) got.2)

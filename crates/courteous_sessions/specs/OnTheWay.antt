@@ -5,10 +5,11 @@ use Rattle.ballot_law.specs.declared.commands.Command.{Command}
 use Rattle.ballot_law.specs.declared.messages.Note.{Note}
 use Rattle.ballot_law.specs.Rosters.{Roster}
 use Rattle.pubsub.specs.declared.channel.Event.{Event}
-use Rattle.pubsub.specs.Listening.{Listening}
+use Rattle.pubsub.specs.Listening.{Listening, is_listening}
 use Rattle.client_commands.specs.Attendants.{Attendance}
 use Rattle.client_commands.specs.declared.protocols.Protocol.{Protocol}
-use Rattle.client_commands.specs.Courtesies.{ClientInfo, Answer}
+use Rattle.client_commands.specs.declared.protocols.Protocol.TheVariants.{Two}
+use Rattle.client_commands.specs.Courtesies.{ClientInfo, Answer, is_stranger}
 use Rattle.client_commands.specs.Lines.{Reads}
 use Rattle.sentinel_core.specs.declared.serving.fault.ServeFault.{ServeFault}
 use Rattle.sentinel_core.specs.declared.serving.fault.ServeFault.TheVariants.{Frame as FaultyFrame, NoMemory as OutOfMemory}
@@ -35,6 +36,14 @@ pub record IsReady (attended : Attendance) (listening : Listening) (hearing : He
   pub reads : attended.held ≡ reading (bytes_in attended.held)
   pub listens : attended.asker.listens ≡ is_confined attended.asker.protocol listening
   pub hears : is_some hearing.listens ≡ hears_switches listening
+
+-- a command may be answered where it stands in a piece: nothing is held, the connection speaks protocol 2 and listens to nothing, and no password is wanted that the client
+-- didn't give
+pub record IsDirect (attended : Attendance) (listening : Listening) : Type 0 where
+  pub none_held : attended.held ≡ reading []
+  pub speaks : attended.asker.protocol ≡ Two
+  pub known : is_stranger attended.asker ≡ false
+  pub quiet : is_listening listening ≡ false
 
 -- a session that ended listens to nothing
 abbrev pub IsSilenced : Option ServeFault → Listening → Type 0

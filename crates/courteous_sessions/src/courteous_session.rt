@@ -35,7 +35,8 @@ impl Model for CourteousSession {
     ghost use Rattle.resp2.specs.Framing.Stream.{bytes_in};
     ghost use Rattle.courteous_sessions.specs.Visits.{Visit};
     ghost use Rattle.port_sessions.specs.Talks.{IsEmptied};
-    ghost use Rattle.courteous_sessions.specs.OnTheWay.{IsReady, IsSilenced};
+    ghost use Rattle.std.specs.Prelude.{◌≡◌, true};
+    ghost use Rattle.courteous_sessions.specs.OnTheWay.{IsReady, IsDirect, IsSilenced};
 
     ghost Value = { Visit };
 
@@ -52,7 +53,8 @@ impl Model for CourteousSession {
 
     ghost invariant = { λ session. IsReady session.exchange.attendant session.exchange.subscriptions session.exchange.responder.hears
         × IsEmptied session.fault (bytes_in session.exchange.attendant.held) session.exchange.responder.hears.listens
-        × IsSilenced session.fault session.exchange.subscriptions };
+        × IsSilenced session.fault session.exchange.subscriptions
+        × (session.exchange.direct ≡ true → IsDirect session.exchange.attendant session.exchange.subscriptions) };
 }
 
 impl CourteousSession {

@@ -13,7 +13,7 @@ ghost use Rattle.resp2.specs.Framing.Frame.{Frame, view, spelling, HasLines, IsF
 ghost use Rattle.resp2.specs.Framing.Stream.{reading, held_size, bytes_in};
 ghost use Rattle.courteous_sessions.specs.Clients.{newcomer};
 ghost use Rattle.courteous_sessions.specs.Epochs.{heard_as};
-ghost use Rattle.courteous_sessions.specs.OnTheWay.{AnswersBeside, IsReady, IsOnTheWay, IsSameAsker, Steps, Drains, BeginsWith, guest_of};
+ghost use Rattle.courteous_sessions.specs.OnTheWay.{AnswersBeside, IsReady, IsDirect, IsOnTheWay, IsSameAsker, Steps, Drains, BeginsWith, guest_of};
 ghost use Rattle.courteous_sessions.specs.Visits.{Guest, guest, is_confined, unsubscribed, channel_turn, introduced, TellsInfo, Answers, Serves, ServesBeside, FailsAt, IsUnanswered, Receives};
 ghost use Rattle.pubsub.specs.Answering.{other};
 
@@ -35,7 +35,7 @@ use std::sync::Wait;
 ///
 /// The responder listens to notes where the connection hears of new addresses. `knows_masters` is whether the attendant was told the names of the Sentinel's masters, `far` the last
 /// request for a vote whose epoch was too far above the Sentinel's, and `answered` how many values were answered since
-/// that was asked.
+/// that was asked. `direct` is whether a command may be answered where it stands in the next piece.
 #[derive(Drop)]
 pub(crate) struct Exchange {
     pub(crate) alloc: Global,
@@ -43,6 +43,7 @@ pub(crate) struct Exchange {
     pub(crate) subscriptions: Subscriptions,
     pub(crate) responder: Responder,
     pub(crate) knows_masters: bool,
+    pub(crate) direct: bool,
     pub(crate) far: Option<FarRequest>,
     pub(crate) answered: u64,
 }
@@ -71,6 +72,7 @@ impl Exchange {
         ensures hears { result.responder.hears ≡ unheard }
         ensures unsent { result.responder.unsent.items ≡ [] }
         ensures knows { result.knows_masters ≡ false }
+        ensures direct { result.direct ≡ false }
         ensures silent { result.subscriptions ≡ unsubscribed }
     {
         Exchange {
@@ -79,6 +81,7 @@ impl Exchange {
             subscriptions: Subscriptions::new(alloc),
             responder: Responder::new(alloc),
             knows_masters: false,
+            direct: false,
             far: None,
             answered: 0,
         }
@@ -89,7 +92,8 @@ impl Exchange {
         ensures attendant { self.new.attendant ≡ record self.old.attendant { text = [] } }
         ensures hears { self.new.responder.hears ≡ self.old.responder.hears }
         ensures unsent { self.new.responder.unsent.items ≡ self.old.responder.unsent.items }
-        ensures kept { (self.new.knows_masters ≡ self.old.knows_masters) × (self.new.subscriptions ≡ self.old.subscriptions) }
+        ensures kept { (self.new.knows_masters ≡ self.old.knows_masters) × (self.new.subscriptions ≡ self.old.subscriptions)
+            × (self.new.direct ≡ self.old.direct) }
     {
         self.responder.rest();
         self.attendant.drop_text();
@@ -106,8 +110,10 @@ impl Exchange {
         ensures hears { self.new.responder.hears ≡ self.old.responder.hears }
         ensures unsent { self.new.responder.unsent.items ≡ self.old.responder.unsent.items }
         ensures kept { (self.new.knows_masters ≡ self.old.knows_masters) × (self.new.subscriptions ≡ self.old.subscriptions) }
+        ensures direct { self.new.direct ≡ false }
     {
         self.attendant.want_password(password);
+        self.direct = false;
     }
 
     /// Has it know this current epoch of the Sentinel.
@@ -115,7 +121,8 @@ impl Exchange {
         ensures attendant { self.new.attendant ≡ record self.old.attendant { asker = record self.old.attendant.asker { current = Some epoch } } }
         ensures hears { self.new.responder.hears ≡ self.old.responder.hears }
         ensures unsent { self.new.responder.unsent.items ≡ self.old.responder.unsent.items }
-        ensures kept { (self.new.knows_masters ≡ self.old.knows_masters) × (self.new.subscriptions ≡ self.old.subscriptions) }
+        ensures kept { (self.new.knows_masters ≡ self.old.knows_masters) × (self.new.subscriptions ≡ self.old.subscriptions)
+            × (self.new.direct ≡ self.old.direct) }
     {
         self.attendant.note_epoch(epoch);
     }
@@ -125,7 +132,8 @@ impl Exchange {
         ensures attendant { self.new.attendant ≡ self.old.attendant }
         ensures hears { self.new.responder.hears ≡ self.old.responder.hears }
         ensures unsent { self.new.responder.unsent.items ≡ self.old.responder.unsent.items }
-        ensures kept { (self.new.knows_masters ≡ self.old.knows_masters) × (self.new.subscriptions ≡ self.old.subscriptions) }
+        ensures kept { (self.new.knows_masters ≡ self.old.knows_masters) × (self.new.subscriptions ≡ self.old.subscriptions)
+            × (self.new.direct ≡ self.old.direct) }
         ensures request { result ≡ self.old.far }
     {
         self.far.take()
@@ -136,7 +144,8 @@ impl Exchange {
         ensures attendant { self.new.attendant ≡ self.old.attendant }
         ensures hears { self.new.responder.hears ≡ self.old.responder.hears }
         ensures unsent { self.new.responder.unsent.items ≡ self.old.responder.unsent.items }
-        ensures kept { (self.new.knows_masters ≡ self.old.knows_masters) × (self.new.subscriptions ≡ self.old.subscriptions) }
+        ensures kept { (self.new.knows_masters ≡ self.old.knows_masters) × (self.new.subscriptions ≡ self.old.subscriptions)
+            × (self.new.direct ≡ self.old.direct) }
         ensures count { result ≡ self.old.answered }
     {
         let answered = self.answered;
@@ -149,7 +158,8 @@ impl Exchange {
         ensures attendant { self.new.attendant ≡ record self.old.attendant { asker = record self.old.attendant.asker { port = port } } }
         ensures hears { self.new.responder.hears ≡ self.old.responder.hears }
         ensures unsent { self.new.responder.unsent.items ≡ self.old.responder.unsent.items }
-        ensures kept { (self.new.knows_masters ≡ self.old.knows_masters) × (self.new.subscriptions ≡ self.old.subscriptions) }
+        ensures kept { (self.new.knows_masters ≡ self.old.knows_masters) × (self.new.subscriptions ≡ self.old.subscriptions)
+            × (self.new.direct ≡ self.old.direct) }
         ensures before { result ≡ self.old.attendant.asker.port }
     {
         self.attendant.know_port(port)
@@ -160,8 +170,10 @@ impl Exchange {
         ensures ready { IsReady self.new.attendant self.new.subscriptions self.new.responder.hears }
         ensures held { self.new.attendant.held ≡ reading [] }
         ensures silent { (self.new.responder.hears.listens ≡ None) × (self.new.subscriptions ≡ unsubscribed) }
+        ensures direct { self.new.direct ≡ false }
         ensures unsent { self.new.responder.unsent.items ≡ self.old.responder.unsent.items }
     {
+        self.direct = false;
         self.attendant.drop_held();
         self.attendant.note_listening(false);
         self.subscriptions = Subscriptions::new(self.alloc);
@@ -179,6 +191,7 @@ impl Exchange {
         ensures knows { OnOk result (self.new.knows_masters ≡ true) }
         ensures hears { (self.new.responder.hears ≡ self.old.responder.hears) × (self.new.subscriptions ≡ self.old.subscriptions) }
         ensures unsent { self.new.responder.unsent.items ≡ self.old.responder.unsent.items }
+        ensures direct { self.new.direct ≡ self.old.direct }
         ensures fault { IfErr result (λ fault. fault ≡ ServeFault.NoMemory) }
     {
         if self.knows_masters {
@@ -202,7 +215,8 @@ impl Exchange {
         ensures attendant { self.new.attendant ≡ self.old.attendant }
         ensures hears { self.new.responder.hears ≡ self.old.responder.hears }
         ensures unsent { self.new.responder.unsent.items ≡ self.old.responder.unsent.items }
-        ensures kept { (self.new.knows_masters ≡ self.old.knows_masters) × (self.new.subscriptions ≡ self.old.subscriptions) }
+        ensures kept { (self.new.knows_masters ≡ self.old.knows_masters) × (self.new.subscriptions ≡ self.old.subscriptions)
+            × (self.new.direct ≡ self.old.direct) }
     {
         let current = self.attendant.current();
         if let Some(request) = far_request(current, asked) {
@@ -230,7 +244,7 @@ impl Exchange {
         ensures fault { IfErr result (λ fault. ((fault ≡ ServeFault.Halted) ⊎ (fault ≡ ServeFault.NoMemory))
             × FailsAt cell.now.start now seat.old.view asked.now fault seat.new.view) }
         ensures kept { (self.new.attendant ≡ self.old.attendant) × (self.new.knows_masters ≡ self.old.knows_masters)
-            × (self.new.subscriptions ≡ self.old.subscriptions) }
+            × (self.new.subscriptions ≡ self.old.subscriptions) × (self.new.direct ≡ self.old.direct) }
     {
         self.responder.answer(rt, cell, seat, now, asked)
     }
@@ -255,9 +269,9 @@ impl Exchange {
         ensures fault { IfErr result (λ fault. ((fault ≡ ServeFault.Halted) ⊎ (fault ≡ ServeFault.NoMemory))
             × FailsAt cell.now.start now seat.old.view (heard_as self.old.attendant.asker.current asked.now) fault seat.new.view) }
         ensures kept { (self.new.attendant ≡ self.old.attendant) × (self.new.knows_masters ≡ self.old.knows_masters)
-            × (self.new.subscriptions ≡ self.old.subscriptions) }
+            × (self.new.subscriptions ≡ self.old.subscriptions) × (self.new.direct ≡ self.old.direct) }
     {
-        if is_plain(self.attendant.current(), asked) {
+        if is_plain(asked) {
             return self.ask(rt, cell, seat, now, asked);
         }
         let heard = self.hear(asked);
@@ -567,6 +581,73 @@ impl Exchange {
         }
     }
 
+    /// Adds what comes next to what is held, and answers the values that are whole with it.
+    fn take_rest<S: ConfStore, R: Wait>(
+        &mut self,
+        rt: &R,
+        cell: &SharedSentinel<S>,
+        seat: &mut Seat,
+        now: u64,
+        rest: &[u8],
+    ) -> Result<(), ServeFault>
+        requires own { seat.old.cell ≡ cell.now.id }
+        requires ready { IsReady self.old.attendant self.old.subscriptions self.old.responder.hears }
+        ensures own { seat.new.cell ≡ seat.old.cell }
+        ensures ready { OnOk result (IsReady self.new.attendant self.new.subscriptions self.new.responder.hears) }
+        ensures knows { self.new.knows_masters ≡ self.old.knows_masters }
+        ensures direct { OnOk result (self.new.direct ≡ true → IsDirect self.new.attendant self.new.subscriptions) }
+        ensures answered { (stream before bytes : List ℕ) (g : Guest) → self.old.responder.unsent.items ≡ before ++ bytes
+            → IsOnTheWay cell.now.start now stream g (reading (bytes_in self.old.attendant.held ++ rest.now)) bytes
+            (guest_of self.old.attendant self.old.subscriptions self.old.responder.hears seat.old.view)
+            → (more : List ℕ) × (self.new.responder.unsent.items ≡ before ++ more)
+            × Drains cell.now.start now stream g result self.new.attendant.held more
+            (guest_of self.new.attendant self.new.subscriptions self.new.responder.hears seat.new.view) }
+    {
+        if self.attendant.feed(rest).is_err() {
+            return Err(ServeFault::NoMemory);
+        }
+        match self.answer_whole(rt, cell, seat, now) {
+            Ok(()) => {
+                self.direct = self.may_be_direct();
+                Ok(())
+            }
+            Err(fault) => Err(fault),
+        }
+    }
+
+    /// Takes the next piece, and answers the values that are whole with it.
+    fn take_known<S: ConfStore, R: Wait>(
+        &mut self,
+        rt: &R,
+        cell: &SharedSentinel<S>,
+        seat: &mut Seat,
+        now: u64,
+        piece: &[u8],
+    ) -> Result<(), ServeFault>
+        requires own { seat.old.cell ≡ cell.now.id }
+        requires ready { IsReady self.old.attendant self.old.subscriptions self.old.responder.hears }
+        requires direct { self.old.direct ≡ true → IsDirect self.old.attendant self.old.subscriptions }
+        ensures own { seat.new.cell ≡ seat.old.cell }
+        ensures ready { OnOk result (IsReady self.new.attendant self.new.subscriptions self.new.responder.hears) }
+        ensures knows { self.new.knows_masters ≡ self.old.knows_masters }
+        ensures direct { OnOk result (self.new.direct ≡ true → IsDirect self.new.attendant self.new.subscriptions) }
+        ensures received { (more : List ℕ) × (self.new.responder.unsent.items ≡ self.old.responder.unsent.items ++ more)
+            × Receives cell.now.start now (bytes_in self.old.attendant.held ++ piece.now)
+            (guest_of self.old.attendant self.old.subscriptions self.old.responder.hears seat.old.view) result (bytes_in self.new.attendant.held) more
+            (guest_of self.new.attendant self.new.subscriptions self.new.responder.hears seat.new.view) }
+    {
+        match self.answer_in_place(rt, cell, seat, now, piece) {
+            Ok(rest) => {
+                if self.direct && rest.is_empty() {
+                    Ok(())
+                } else {
+                    self.take_rest(rt, cell, seat, now, rest)
+                }
+            }
+            Err(fault) => Err(fault),
+        }
+    }
+
     /// Takes the next piece, and answers the values that are whole with it.
     pub(crate) fn take_piece<S: ConfStore, R: Wait>(
         &mut self,
@@ -578,8 +659,10 @@ impl Exchange {
     ) -> Result<(), ServeFault>
         requires own { seat.old.cell ≡ cell.now.id }
         requires ready { IsReady self.old.attendant self.old.subscriptions self.old.responder.hears }
+        requires direct { self.old.direct ≡ true → IsDirect self.old.attendant self.old.subscriptions }
         ensures own { seat.new.cell ≡ seat.old.cell }
         ensures ready { OnOk result (IsReady self.new.attendant self.new.subscriptions self.new.responder.hears) }
+        ensures direct { OnOk result (self.new.direct ≡ true → IsDirect self.new.attendant self.new.subscriptions) }
         ensures knows { OnOk result (self.new.knows_masters ≡ true) }
         ensures received { (more : List ℕ) × (self.new.responder.unsent.items ≡ self.old.responder.unsent.items ++ more)
             × Receives cell.now.start now (bytes_in self.old.attendant.held ++ piece.now)
@@ -590,9 +673,6 @@ impl Exchange {
         if self.learn_masters(cell).is_err() {
             return Err(ServeFault::NoMemory);
         }
-        if self.attendant.feed(piece).is_err() {
-            return Err(ServeFault::NoMemory);
-        }
-        self.answer_whole(rt, cell, seat, now)
+        self.take_known(rt, cell, seat, now, piece)
     }
 }

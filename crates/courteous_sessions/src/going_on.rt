@@ -4,7 +4,7 @@ ghost use Rattle.std.specs.Prelude.{◌≡◌, ◌<◌, ◌+◌, ◌++◌, ℕ, 
 ghost use Rattle.port_sessions.specs.Stores.{may_store, one_if};
 ghost use Rattle.resp2.specs.Framing.Stream.{reading, held_size, bytes_in};
 ghost use Rattle.courteous_sessions.specs.GoingOn.{IsWithin, TakesAhead, StepsWithin, DrainsWithin, GoesOn};
-ghost use Rattle.courteous_sessions.specs.OnTheWay.{IsReady, guest_of};
+ghost use Rattle.courteous_sessions.specs.OnTheWay.{IsReady, IsDirect, guest_of};
 ghost use Rattle.courteous_sessions.specs.Visits.{Guest, guest, introduced};
 ghost use Rattle.port_sessions.specs.Talks.{party};
 
@@ -31,7 +31,7 @@ pub(crate) enum NextValue {
 }
 
 /// A command as it is asked.
-fn asked_by(command: &Command) -> Result<Command, CommandFault>
+pub(crate) fn asked_by(command: &Command) -> Result<Command, CommandFault>
     ensures { result ≡ Ok command.now }
 {
     Ok(*command)
@@ -186,6 +186,75 @@ impl Exchange {
         Limit::new(self.alloc, self.attendant.held(), most)
     }
 
+    /// Adds what comes next to what is held, and answers the values that are whole with it, of which so many may store.
+    fn take_some_rest<S: ConfStore, R: Wait>(
+        &mut self,
+        rt: &R,
+        cell: &SharedSentinel<S>,
+        seat: &mut Seat,
+        now: u64,
+        rest: &[u8],
+        most: u64,
+    ) -> Result<Reach, ServeFault>
+        requires own { seat.old.cell ≡ cell.now.id }
+        requires ready { IsReady self.old.attendant self.old.subscriptions self.old.responder.hears }
+        ensures own { seat.new.cell ≡ seat.old.cell }
+        ensures ready { OnOk result (IsReady self.new.attendant self.new.subscriptions self.new.responder.hears) }
+        ensures knows { self.new.knows_masters ≡ self.old.knows_masters }
+        ensures direct { OnOk result (self.new.direct ≡ true → IsDirect self.new.attendant self.new.subscriptions) }
+        ensures answered { (stream before bytes : List ℕ) (g : Guest) → self.old.responder.unsent.items ≡ before ++ bytes
+            → IsWithin cell.now.start now most stream g most (reading (bytes_in self.old.attendant.held ++ rest.now)) bytes
+            (guest_of self.old.attendant self.old.subscriptions self.old.responder.hears seat.old.view)
+            → (more : List ℕ) × (self.new.responder.unsent.items ≡ before ++ more)
+            × DrainsWithin cell.now.start now most stream g result self.new.attendant.held more
+            (guest_of self.new.attendant self.new.subscriptions self.new.responder.hears seat.new.view) }
+    {
+        let Ok(mut limit) = self.feed_within(rest, most) else {
+            return Err(ServeFault::NoMemory);
+        };
+        match self.go_on_whole(rt, cell, seat, now, &mut limit) {
+            Ok(reach) => {
+                self.direct = self.may_be_direct();
+                Ok(reach)
+            }
+            Err(fault) => Err(fault),
+        }
+    }
+
+    /// Takes the next piece, and answers the values that are whole with it, of which so many may store.
+    fn take_some_known<S: ConfStore, R: Wait>(
+        &mut self,
+        rt: &R,
+        cell: &SharedSentinel<S>,
+        seat: &mut Seat,
+        now: u64,
+        piece: &[u8],
+        most: u64,
+    ) -> Result<Reach, ServeFault>
+        requires own { seat.old.cell ≡ cell.now.id }
+        requires ready { IsReady self.old.attendant self.old.subscriptions self.old.responder.hears }
+        requires direct { self.old.direct ≡ true → IsDirect self.old.attendant self.old.subscriptions }
+        ensures own { seat.new.cell ≡ seat.old.cell }
+        ensures ready { OnOk result (IsReady self.new.attendant self.new.subscriptions self.new.responder.hears) }
+        ensures knows { self.new.knows_masters ≡ self.old.knows_masters }
+        ensures direct { OnOk result (self.new.direct ≡ true → IsDirect self.new.attendant self.new.subscriptions) }
+        ensures received { (more : List ℕ) × (self.new.responder.unsent.items ≡ self.old.responder.unsent.items ++ more)
+            × GoesOn cell.now.start now most (bytes_in self.old.attendant.held ++ piece.now)
+            (guest_of self.old.attendant self.old.subscriptions self.old.responder.hears seat.old.view) result (bytes_in self.new.attendant.held) more
+            (guest_of self.new.attendant self.new.subscriptions self.new.responder.hears seat.new.view) }
+    {
+        match self.answer_in_place(rt, cell, seat, now, piece) {
+            Ok(rest) => {
+                if self.direct && rest.is_empty() {
+                    Ok(Reach::Done)
+                } else {
+                    self.take_some_rest(rt, cell, seat, now, rest, most)
+                }
+            }
+            Err(fault) => Err(fault),
+        }
+    }
+
     /// Takes the next piece, and answers the values that are whole with it, of which so many may store.
     pub(crate) fn take_some<S: ConfStore, R: Wait>(
         &mut self,
@@ -198,8 +267,10 @@ impl Exchange {
     ) -> Result<Reach, ServeFault>
         requires own { seat.old.cell ≡ cell.now.id }
         requires ready { IsReady self.old.attendant self.old.subscriptions self.old.responder.hears }
+        requires direct { self.old.direct ≡ true → IsDirect self.old.attendant self.old.subscriptions }
         ensures own { seat.new.cell ≡ seat.old.cell }
         ensures ready { OnOk result (IsReady self.new.attendant self.new.subscriptions self.new.responder.hears) }
+        ensures direct { OnOk result (self.new.direct ≡ true → IsDirect self.new.attendant self.new.subscriptions) }
         ensures knows { OnOk result (self.new.knows_masters ≡ true) }
         ensures received { (more : List ℕ) × (self.new.responder.unsent.items ≡ self.old.responder.unsent.items ++ more)
             × GoesOn cell.now.start now most (bytes_in self.old.attendant.held ++ piece.now)
@@ -210,9 +281,6 @@ impl Exchange {
         if self.learn_masters(cell).is_err() {
             return Err(ServeFault::NoMemory);
         }
-        let Ok(mut limit) = self.feed_within(piece, most) else {
-            return Err(ServeFault::NoMemory);
-        };
-        self.go_on_whole(rt, cell, seat, now, &mut limit)
+        self.take_some_known(rt, cell, seat, now, piece, most)
     }
 }

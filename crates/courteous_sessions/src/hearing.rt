@@ -192,7 +192,8 @@ impl Exchange {
         ensures err { OnErr result (self.new.responder.unsent.items ≡ self.old.responder.unsent.items) }
         ensures hears { self.new.responder.hears ≡ self.old.responder.hears }
         ensures attendant { self.new.attendant ≡ self.old.attendant }
-        ensures kept { (self.new.knows_masters ≡ self.old.knows_masters) × (self.new.subscriptions ≡ self.old.subscriptions) }
+        ensures kept { (self.new.knows_masters ≡ self.old.knows_masters) × (self.new.subscriptions ≡ self.old.subscriptions)
+            × (self.new.direct ≡ self.old.direct) }
         ensures fault { IfErr result (λ fault. fault ≡ ServeFault.NoMemory) }
     {
         let protocol = self.attendant.protocol();
@@ -212,7 +213,8 @@ impl Exchange {
         ensures err { OnErr result (self.new.responder.unsent.items ≡ self.old.responder.unsent.items) }
         ensures hears { self.new.responder.hears ≡ self.old.responder.hears }
         ensures attendant { self.new.attendant ≡ self.old.attendant }
-        ensures kept { (self.new.knows_masters ≡ self.old.knows_masters) × (self.new.subscriptions ≡ self.old.subscriptions) }
+        ensures kept { (self.new.knows_masters ≡ self.old.knows_masters) × (self.new.subscriptions ≡ self.old.subscriptions)
+            × (self.new.direct ≡ self.old.direct) }
     {
         let mut told = OutText::new(self.alloc);
         let channel = Channel::SwitchMaster.name();
@@ -238,7 +240,8 @@ impl Exchange {
         ensures told { NotifiesBelow roster.now note.now entry self.old.attendant.asker.protocol self.old.subscriptions self.old.responder.hears self.old.responder.unsent.items result self.new.responder.hears
             self.new.responder.unsent.items }
         ensures attendant { self.new.attendant ≡ self.old.attendant }
-        ensures kept { (self.new.knows_masters ≡ self.old.knows_masters) × (self.new.subscriptions ≡ self.old.subscriptions) }
+        ensures kept { (self.new.knows_masters ≡ self.old.knows_masters) × (self.new.subscriptions ≡ self.old.subscriptions)
+            × (self.new.direct ≡ self.old.direct) }
     {
         roster.is_made();
         if !self.responder.count_note(note, entry) {
@@ -256,7 +259,8 @@ impl Exchange {
         ensures told { TellsBelow event.now self.old.attendant.asker.protocol self.old.subscriptions self.old.responder.unsent.items result self.new.responder.unsent.items }
         ensures hears { self.new.responder.hears ≡ self.old.responder.hears }
         ensures attendant { self.new.attendant ≡ self.old.attendant }
-        ensures kept { (self.new.knows_masters ≡ self.old.knows_masters) × (self.new.subscriptions ≡ self.old.subscriptions) }
+        ensures kept { (self.new.knows_masters ≡ self.old.knows_masters) × (self.new.subscriptions ≡ self.old.subscriptions)
+            × (self.new.direct ≡ self.old.direct) }
     {
         let mut told = OutText::new(self.alloc);
         self.subscriptions.find_out(event.channel);

@@ -14,12 +14,14 @@ mod epochs;
 mod exchange;
 mod going_on;
 mod hearing;
+mod in_place;
 mod laws;
 mod nested;
 mod questions;
 mod retelling;
 mod shapes;
 mod speaking;
+mod stub;
 
 pub use client_session::ClientSession;
 pub use courteous_session::CourteousSession;
