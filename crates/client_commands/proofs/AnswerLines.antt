@@ -3,6 +3,7 @@ use Rattle.std.proofs.Common.{◌≡◌, ◌≢◌, ◌+◌, ◌-◌, ◌||◌, 
 use Rattle.std.specs.Prelude.{nat_lt, nat_le, bytes_eq}
 use Rattle.std.specs.List.{list_all}
 use Rattle.std.proofs.lemmas.Bool.{and_parts}
+use Rattle.ballot_law.specs.Rosters.{MasterPlan, Roster}
 use Rattle.ballot_law.specs.Words.{lower, canonical_within}
 use Rattle.resp2.specs.Framing.Frame.{Frame, simple, fault, bulk, frames_of, IsLine, HasLines, HaveLines}
 use Rattle.client_commands.specs.declared.verbs.Verb.{Verb}
@@ -23,7 +24,8 @@ use Rattle.client_commands.proofs.TableLines.{table_lines, docs_lines, info_line
 use Rattle.client_commands.specs.Helps.{sentinel_help, client_help, command_help}
 use Rattle.client_commands.specs.declared.protocols.Protocol.{Protocol}
 use Rattle.client_commands.specs.Protocols.{protocol_asked}
-use Rattle.client_commands.specs.Courtesies.{ClientInfo, MonitoredMaster, Answer, left, said, asks_masters, silent, Looked, known, refused, verb_name, Greeted, greeted, expected, taken, is_user, is_password, is_some, admits, is_stranger, lacks_password, greeted_by, is_client_name, is_integer, after_first, first, or_else, hello_map, answered, asks_nothing, reply_to, courtesy, or_left}
+use Rattle.client_commands.specs.Sections.{is_told}
+use Rattle.client_commands.specs.Courtesies.{ClientInfo, Answer, left, said, asks_info, silent, Looked, known, refused, verb_name, Greeted, greeted, expected, taken, is_user, is_password, is_some, admits, is_stranger, lacks_password, greeted_by, is_client_name, is_integer, after_first, first, or_else, hello_map, answered, asks_nothing, reply_to, courtesy, or_left}
 use Rattle.client_commands.proofs.Silence.{asked_is, unasked_is}
 
 -- ---- lines
@@ -370,9 +372,9 @@ uncached_lines : (n : ℕ) → HaveLines (table.uncached n)
 uncached_lines zero = tt
 uncached_lines (suc n) = ((tt, (tt, tt)), uncached_lines n)
 
-cached_lines : (masters : List MonitoredMaster) → HaveLines (table.cached masters)
+cached_lines : (masters : List MasterPlan) → HaveLines (table.cached masters)
 cached_lines [] = tt
-cached_lines (master ∷ masters) = (tt, (uncached_lines master.nodes, cached_lines masters))
+cached_lines (master ∷ masters) = (tt, (uncached_lines (length master.nodes), cached_lines masters))
 
 only_line : HasLines only_get
 only_line = checked (codes "ERR Only SENTINEL CONFIG GET <option> / SET <option> <value> are supported.") refl
@@ -396,48 +398,52 @@ config_lines asker (mode ∷ option ∷ value ∷ []) =
     one_of (is_called (codes "set") mode) _ _ (runtime_line (codes "CONFIG SET") refl) only_line
 config_lines asker (mode ∷ option ∷ value ∷ next ∷ words) = only_line
 
-told_lines_of : (asker : ClientInfo) (sub : Sub) (words : List (List ℕ)) → HasLines (table.sentinel_told asker sub words)
-told_lines_of asker Help words = told_have_lines sentinel_help refl
-told_lines_of asker PendingScripts words = tt
-told_lines_of asker InfoCache words = cached_lines (table.named_masters words asker.masters)
-told_lines_of asker Config words = config_lines asker words
-told_lines_of asker SetOption words = runtime_line (codes "SET") refl
-told_lines_of asker Monitor words = runtime_line (codes "MONITOR") refl
-told_lines_of asker Remove words = runtime_line (codes "REMOVE") refl
-told_lines_of asker Reset words = runtime_line (codes "RESET") refl
-told_lines_of asker Simulate words = trial_line (codes "SIMULATE-FAILURE") refl
-told_lines_of asker Debug words = trial_line (codes "DEBUG") refl
+told_lines_of : (roster : Roster) (asker : ClientInfo) (sub : Sub) (words : List (List ℕ)) → HasLines (table.sentinel_told roster asker sub words)
+told_lines_of roster asker Help words = told_have_lines sentinel_help refl
+told_lines_of roster asker PendingScripts words = tt
+told_lines_of roster asker InfoCache words = cached_lines (table.named_masters words roster.masters)
+told_lines_of roster asker Config words = config_lines asker words
+told_lines_of roster asker SetOption words = runtime_line (codes "SET") refl
+told_lines_of roster asker Monitor words = runtime_line (codes "MONITOR") refl
+told_lines_of roster asker Remove words = runtime_line (codes "REMOVE") refl
+told_lines_of roster asker Reset words = runtime_line (codes "RESET") refl
+told_lines_of roster asker Simulate words = trial_line (codes "SIMULATE-FAILURE") refl
+told_lines_of roster asker Debug words = trial_line (codes "DEBUG") refl
 
 abbrev AreAnswerLines : Answer → Type 0
 AreAnswerLines left = Unit {0}
 AreAnswerLines (said answer) = HasLines answer
-AreAnswerLines asks_masters = Unit {0}
+AreAnswerLines asks_info = Unit {0}
 AreAnswerLines silent = ⊥
 
-executed_lines : (asker : ClientInfo) (verb : Verb) (words : List (List ℕ)) → AreAnswerLines (table.executed asker verb words)
-executed_lines asker Ping words = tt
-executed_lines asker Hello words = hello_lines asker words
-executed_lines asker Auth words = auth_lines asker.password words
-executed_lines asker SetName words = one_of (is_client_name (first words)) _ _ ok_line name_line
-executed_lines asker SetInfo words = ok_line
-executed_lines asker GetName words = get_name_lines asker.name
-executed_lines asker Id words = tt
-executed_lines asker OfClients words = list_lines asker words
-executed_lines asker Own words = tt
-executed_lines asker Kill words = killed_lines asker (length words == 1) (chosen_by words) (chosen_lines words)
-executed_lines asker NoEvict words = one_of (is_called (codes "on") (first words) || is_called (codes "off") (first words)) _ _ ok_line syntax_line
-executed_lines asker Reply words = one_of (is_called (codes "on") (first words)) _ _ ok_line syntax_line
-executed_lines asker HelpOfClient words = told_have_lines client_help refl
-executed_lines asker Commands words = table_lines
-executed_lines asker Docs words = docs_lines words
-executed_lines asker Count words = tt
-executed_lines asker InfoOfCommands words = info_lines words
-executed_lines asker ListOfCommands words = list_of_lines words
-executed_lines asker HelpOfCommand words = told_have_lines command_help refl
-executed_lines asker Role words = (tt, (names_lines (table.names_of asker.masters), tt))
-executed_lines asker Publish words = publish_lines words
-executed_lines asker Info words = tt
-executed_lines asker (Sentinel sub) words = told_lines_of asker sub words
+one_answer : (test : Bool) (one two : Answer) → AreAnswerLines one → AreAnswerLines two → AreAnswerLines (elim test as (λ _. Answer) [ true ↦ one | false ↦ two ])
+one_answer true one two h k = h
+one_answer false one two h k = k
+
+executed_lines : (roster : Roster) (asker : ClientInfo) (verb : Verb) (words : List (List ℕ)) → AreAnswerLines (table.executed roster asker verb words)
+executed_lines roster asker Ping words = tt
+executed_lines roster asker Hello words = hello_lines asker words
+executed_lines roster asker Auth words = auth_lines asker.password words
+executed_lines roster asker SetName words = one_of (is_client_name (first words)) _ _ ok_line name_line
+executed_lines roster asker SetInfo words = ok_line
+executed_lines roster asker GetName words = get_name_lines asker.name
+executed_lines roster asker Id words = tt
+executed_lines roster asker OfClients words = list_lines asker words
+executed_lines roster asker Own words = tt
+executed_lines roster asker Kill words = killed_lines asker (length words == 1) (chosen_by words) (chosen_lines words)
+executed_lines roster asker NoEvict words = one_of (is_called (codes "on") (first words) || is_called (codes "off") (first words)) _ _ ok_line syntax_line
+executed_lines roster asker Reply words = one_of (is_called (codes "on") (first words)) _ _ ok_line syntax_line
+executed_lines roster asker HelpOfClient words = told_have_lines client_help refl
+executed_lines roster asker Commands words = table_lines
+executed_lines roster asker Docs words = docs_lines words
+executed_lines roster asker Count words = tt
+executed_lines roster asker InfoOfCommands words = info_lines words
+executed_lines roster asker ListOfCommands words = list_of_lines words
+executed_lines roster asker HelpOfCommand words = told_have_lines command_help refl
+executed_lines roster asker Role words = (tt, (names_lines (table.names_of roster.masters), tt))
+executed_lines roster asker Publish words = publish_lines words
+executed_lines roster asker Info words = one_answer (is_told (codes "sentinel") words) _ _ tt tt
+executed_lines roster asker (Sentinel sub) words = told_lines_of roster asker sub words
 
 listening_lines : (verb : Verb) (words : List (List ℕ)) → HasLines (table.while_listening verb words)
 listening_lines Ping words = (tt, (tt, tt))
@@ -464,14 +470,10 @@ listening_lines Publish words = listener_line Publish
 listening_lines Info words = listener_line Info
 listening_lines (Sentinel sub) words = listener_line (Sentinel sub)
 
-one_answer : (test : Bool) (one two : Answer) → AreAnswerLines one → AreAnswerLines two → AreAnswerLines (elim test as (λ _. Answer) [ true ↦ one | false ↦ two ])
-one_answer true one two h k = h
-one_answer false one two h k = k
-
-answered_lines : (asker : ClientInfo) (looked : Looked) → AreLines looked → AreAnswerLines (answered asker looked)
-answered_lines asker (known verb words) h =
-    one_answer asker.listens _ _ (listening_lines verb words) (executed_lines asker verb words)
-answered_lines asker (refused refusal) h = h
+answered_lines : (roster : Roster) (asker : ClientInfo) (looked : Looked) → AreLines looked → AreAnswerLines (answered roster asker looked)
+answered_lines roster asker (known verb words) h =
+    one_answer asker.listens _ _ (listening_lines verb words) (executed_lines roster asker verb words)
+answered_lines roster asker (refused refusal) h = h
 
 abbrev AreLinesOrNone : Option Looked → Type 0
 AreLinesOrNone None = Unit {0}
@@ -486,28 +488,28 @@ in_lines asker miscounted [] = tt
 in_lines asker miscounted (name ∷ words) =
     maybe (table.names_channels (name ∷ words) || table.is_barred asker name) _ _ tt (looked_up_lines miscounted name words)
 
-or_left_lines : (asker : ClientInfo) (looked : Option Looked) → AreLinesOrNone looked → AreAnswerLines (or_left asker looked)
-or_left_lines asker None h = one_answer (is_stranger asker) _ _ no_auth_line tt
-or_left_lines asker (Some looked) h = answered_lines asker looked h
+or_left_lines : (roster : Roster) (asker : ClientInfo) (looked : Option Looked) → AreLinesOrNone looked → AreAnswerLines (or_left roster asker looked)
+or_left_lines roster asker None h = one_answer (is_stranger asker) _ _ no_auth_line tt
+or_left_lines roster asker (Some looked) h = answered_lines roster asker looked h
 
-reply_lines : (asker : ClientInfo) (value : Frame) → AreAnswerLines (reply_to asker value)
-reply_lines asker value =
+reply_lines : (roster : Roster) (asker : ClientInfo) (value : Frame) → AreAnswerLines (reply_to roster asker value)
+reply_lines roster asker value =
     one_answer (table.is_refused (redis_command_of value)) _ _
-    (or_left_lines asker (table.looked_up_in asker (table.is_miscounted (redis_command_of value)) (table.words_of value))
+    (or_left_lines roster asker (table.looked_up_in asker (table.is_miscounted (redis_command_of value)) (table.words_of value))
     (in_lines asker (table.is_miscounted (redis_command_of value)) (table.words_of value)))
     (one_answer (is_stranger asker) _ _ no_auth_line tt)
 
-said_by : (asker : ClientInfo) (value answer : Frame) (test : Bool) → asks_nothing value ≡ test → courtesy asker value ≡ said answer → HasLines answer
-said_by asker value answer true h is = absurd (let no = sym (unasked_is asker value h) ∙ is in cc)
-said_by asker value answer false h is = subst AreAnswerLines (sym (asked_is asker value h) ∙ is) (reply_lines asker value)
+said_by : (roster : Roster) (asker : ClientInfo) (value answer : Frame) (test : Bool) → asks_nothing value ≡ test → courtesy roster asker value ≡ said answer → HasLines answer
+said_by roster asker value answer true h is = absurd (let no = sym (unasked_is roster asker value h) ∙ is in cc)
+said_by roster asker value answer false h is = subst AreAnswerLines (sym (asked_is roster asker value h) ∙ is) (reply_lines roster asker value)
 
-pub said_has_lines : (asker : ClientInfo) (value answer : Frame) → courtesy asker value ≡ said answer → HasLines answer
-said_has_lines asker value answer is = said_by asker value answer (asks_nothing value) refl is
+pub said_has_lines : (roster : Roster) (asker : ClientInfo) (value answer : Frame) → courtesy roster asker value ≡ said answer → HasLines answer
+said_has_lines roster asker value answer is = said_by roster asker value answer (asks_nothing value) refl is
 
-silent_by : (asker : ClientInfo) (value : Frame) (test : Bool) → asks_nothing value ≡ test → courtesy asker value ≡ silent → asks_nothing value ≡ true
-silent_by asker value true h is = h
-silent_by asker value false h is = absurd (subst AreAnswerLines (sym (asked_is asker value h) ∙ is) (reply_lines asker value))
+silent_by : (roster : Roster) (asker : ClientInfo) (value : Frame) (test : Bool) → asks_nothing value ≡ test → courtesy roster asker value ≡ silent → asks_nothing value ≡ true
+silent_by roster asker value true h is = h
+silent_by roster asker value false h is = absurd (subst AreAnswerLines (sym (asked_is roster asker value h) ∙ is) (reply_lines roster asker value))
 
 -- each value but these has an answer
-pub silent_asks_nothing : (asker : ClientInfo) (value : Frame) → courtesy asker value ≡ silent → asks_nothing value ≡ true
-silent_asks_nothing asker value is = silent_by asker value (asks_nothing value) refl is
+pub silent_asks_nothing : (roster : Roster) (asker : ClientInfo) (value : Frame) → courtesy roster asker value ≡ silent → asks_nothing value ≡ true
+silent_asks_nothing roster asker value is = silent_by roster asker value (asks_nothing value) refl is

@@ -2,12 +2,12 @@
 use Rattle.std.proofs.Common.{◌≡◌, ◌∙◌, ◌<◌, ◌-◌, ℕ, zero, suc, List, [], ◌∷◌, ◌++◌, length, map, decimal, refl, sym, ap, arith, subst, append-nil, Result, Option, None, Some, Bool, true, false, true≢false}
 use Rattle.std.proofs.lemmas.Fmt.{decimal_digit, decimal_step}
 use Rattle.std.specs.Prelude.{OnOk}
-use Rattle.resp2.specs.declared.framing.value.Value.{Value}
-use Rattle.resp2.specs.Framing.Frame.{Frame, bulk, items, no_frames, count, frames_of, frames_view, spelling, spellings, line_end}
+use Rattle.ballot_law.specs.Rosters.{MasterPlan}
+use Rattle.resp2.specs.Framing.Frame.{Frame, bulk, items, no_frames, count, frames_of, spelling, spellings, line_end}
 use Rattle.client_commands.specs.Refusals.{no_auth_yet}
 use Rattle.client_commands.specs.declared.protocols.Protocol.{Protocol}
 use Rattle.client_commands.specs.declared.protocols.Protocol.TheVariants.{Two, Three}
-use Rattle.client_commands.specs.Courtesies.{ClientInfo, MonitoredMaster, names_of, or_else, is_some, lacks_password, refusal_text, greeting_of, hello_map, role, pong, first, uncached}
+use Rattle.client_commands.specs.Courtesies.{ClientInfo, names_of, or_else, is_some, lacks_password, refusal_text, greeting_of, hello_map, role, pong, first, uncached}
 
 -- a text that was set to the bytes of an answer
 pub set_to : {X E : Type 0} (answer : Result X E) (text bytes wanted : List ℕ) → wanted ≡ bytes → OnOk answer (text ≡ bytes) → OnOk answer (text ≡ wanted)
@@ -71,22 +71,18 @@ pong_front = 42 ∷ 50 ∷ 13 ∷ 10 ∷ 36 ∷ 52 ∷ 13 ∷ 10 ∷ 112 ∷ 111
 pub pong_bytes : (words : List (List ℕ)) → spelling (pong words) ≡ pong_front ++ spelling (bulk (first words))
 pong_bytes words = rw (two, four) (ap (λ (t : List ℕ). pong_front ++ t) (append-nil (spelling (bulk (first words)))))
 
-count_names : (masters : List MonitoredMaster) → count (frames_of (map bulk (names_of masters))) ≡ length masters
+count_names : (masters : List MasterPlan) → count (frames_of (map bulk (names_of masters))) ≡ length masters
 count_names [] = refl
 count_names (master ∷ masters) = ap suc (count_names masters)
 
 abbrev pub role_front : List ℕ
 role_front = 42 ∷ 50 ∷ 13 ∷ 10 ∷ 36 ∷ 56 ∷ 13 ∷ 10 ∷ 115 ∷ 101 ∷ 110 ∷ 116 ∷ 105 ∷ 110 ∷ 101 ∷ 108 ∷ 13 ∷ 10 ∷ 42 ∷ []
 
-pub role_bytes : (masters : List MonitoredMaster)
+pub role_bytes : (masters : List MasterPlan)
     → spelling (role (names_of masters)) ≡ role_front ++ ((decimal (length masters) ++ line_end) ++ spellings (frames_of (map bulk (names_of masters))))
 role_bytes masters =
     rw (two, eight, count_names masters)
     (ap (λ (t : List ℕ). role_front ++ t) (append-nil ((decimal (length masters) ++ line_end) ++ spellings (frames_of (map bulk (names_of masters))))))
-
-pub count_views : (rows : List Value) → count (frames_view rows) ≡ length rows
-count_views [] = refl
-count_views (row ∷ rows) = ap suc (count_views rows)
 
 -- the answer to HELLO, where an option was refused or none was
 pub refused_welcome : (before : List ℕ) (refusal : Option Frame) (answer : Frame) → true ≡ is_some refusal → refusal_text before refusal ≡ spelling (or_else refusal answer)

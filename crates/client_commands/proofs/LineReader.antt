@@ -1,8 +1,8 @@
 -- What a reader of a stream with lines answers.
-use Rattle.std.proofs.Common.{◌≡◌, ◌∙◌, ℕ, true, false, List, drop, Option, Some, None, Result, Ok, Err, refl, sym, true≢false}
+use Rattle.std.proofs.Common.{◌≡◌, ◌∙◌, ℕ, Bool, true, false, List, drop, Option, Some, None, Result, Ok, Err, refl, sym, true≢false}
 use Rattle.std.specs.Prelude.{IfSome}
 use Rattle.ballot_law.specs.declared.commands.Command.{Command}
-use Rattle.resp2.specs.Asked.{Asks}
+use Rattle.resp2.specs.Asked.{Asks, Found}
 use Rattle.resp2.specs.declared.framing.fault.FrameFault.{FrameFault}
 use Rattle.resp2.specs.declared.framing.fault.FrameFault.TheVariants.{BadKind, BadLength, BadNumber, MissingEnd, TooLong, TooDeep, TooMany, NoMemory}
 use Rattle.resp2.specs.declared.framing.value.Value.{Value}
@@ -46,6 +46,16 @@ pub maybe_common_taken : (before after : Held) (given : Option Command) → begi
     → IfSome given (λ command. Asks before (Ok (Some (Ok command))) after) → IfSome given (TakesCommon before after)
 maybe_common_taken before after (Some command) begins h = common_taken before after command begins h
 maybe_common_taken before after None begins h = tt
+
+-- so is one that stands at the front of bytes that aren't held: no line is read as one
+found_taken : (bytes rest : List ℕ) (command : Command) (test : Bool) → begins_line bytes ≡ test → Found bytes (Ok command) rest
+    → TakesCommon (reading bytes) (reading rest) command
+found_taken bytes rest command true begins h = absurd (let no = sym h.1 ∙ line_is_faulty bytes begins in cc)
+found_taken bytes rest command false begins h =
+    record { bytes = bytes; value = h.0; rest = rest; held_is = refl; found = as_frame bytes begins ∙ h.1; left = refl; asked = sym h.2 }
+
+pub common_found : (bytes rest : List ℕ) (command : Command) → Found bytes (Ok command) rest → TakesCommon (reading bytes) (reading rest) command
+common_found bytes rest command h = found_taken bytes rest command (begins_line bytes) refl h
 
 -- a line that is none is at fault in RESP2
 pub broken_answered : (before after : Held) (answer : Result (Option Value) FrameFault) → begins_line (bytes_in before) ≡ true → IsFound Broken (bytes_in before)

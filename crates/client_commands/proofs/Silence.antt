@@ -2,6 +2,7 @@
 use Rattle.std.proofs.Common.{◌≡◌, eqb, List, [], ◌∷◌, length, arith, Bool, true, false, Option, None, Ok, Err, refl, sym, ap, true≢false}
 use Rattle.std.proofs.lemmas.Bool.{ne_eqb}
 use Rattle.ballot_law.specs.declared.commands.Command.{Command}
+use Rattle.ballot_law.specs.Rosters.{Roster}
 use Rattle.resp2.specs.Commands.{redis_command_of}
 use Rattle.resp2.specs.Framing.Frame.{Frame, simple, fault, int, bulk, null_bulk, items, null_items, no_frames, frame, frames_view}
 use Rattle.resp2.specs.declared.framing.value.Value.{Value}
@@ -39,11 +40,11 @@ command_asks (int n) command is = refl
 command_asks (bulk bytes) command is = refl
 command_asks null_bulk command is = refl
 
-pub asked_is : (asker : ClientInfo) (value : Frame) → asks_nothing value ≡ false → courtesy asker value ≡ reply_to asker value
-asked_is asker value h = ap (λ (t : Bool). elim t as (λ _. Answer) [ true ↦ silent | false ↦ reply_to asker value ]) h
+pub asked_is : (roster : Roster) (asker : ClientInfo) (value : Frame) → asks_nothing value ≡ false → courtesy roster asker value ≡ reply_to roster asker value
+asked_is roster asker value h = ap (λ (t : Bool). elim t as (λ _. Answer) [ true ↦ silent | false ↦ reply_to roster asker value ]) h
 
-pub unasked_is : (asker : ClientInfo) (value : Frame) → asks_nothing value ≡ true → courtesy asker value ≡ silent
-unasked_is asker value h = ap (λ (t : Bool). elim t as (λ _. Answer) [ true ↦ silent | false ↦ reply_to asker value ]) h
+pub unasked_is : (roster : Roster) (asker : ClientInfo) (value : Frame) → asks_nothing value ≡ true → courtesy roster asker value ≡ silent
+unasked_is roster asker value h = ap (λ (t : Bool). elim t as (λ _. Answer) [ true ↦ silent | false ↦ reply_to roster asker value ]) h
 
 -- how many items an array has tells whether it asks for something
 pub by_count : (values : List Value) → eqb (length values) 0 ≡ asks_nothing (items (frames_view values))

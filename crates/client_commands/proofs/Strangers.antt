@@ -3,6 +3,7 @@ use Rattle.std.proofs.Common.{◌≡◌, ◌∙◌, ◌&&◌, ◌||◌, ◌==◌
 use Rattle.std.specs.Prelude.{nat_lt, nat_le}
 use Rattle.std.specs.List.{list_any}
 use Rattle.std.proofs.lemmas.Bool.{and_parts}
+use Rattle.ballot_law.specs.Rosters.{Roster}
 use Rattle.resp2.specs.Commands.{redis_command_of}
 use Rattle.resp2.specs.Framing.Frame.{Frame}
 use Rattle.client_commands.specs.declared.verbs.Verb.{Verb}
@@ -16,7 +17,7 @@ use Rattle.client_commands.specs.Subcommands.{all_subs, sub_among, takes_count}
 use Rattle.client_commands.specs.declared.protocols.Protocol.{Protocol}
 use Rattle.client_commands.specs.Protocols.{protocol_asked}
 use Rattle.client_commands.specs.Courtesies as table
-use Rattle.client_commands.specs.Courtesies.{ClientInfo, Answer, left, said, asks_masters, Looked, known, refused, Greeted, greeted, expected, is_user, is_password, is_client_name, is_some, after_first, lacks_password, is_stranger, is_for_strangers, admits, hello_admitted, admitted_by, or_admitted, answered, or_left, left_over, courtesy, asker_after, kind_of, words_of}
+use Rattle.client_commands.specs.Courtesies.{ClientInfo, Answer, left, said, Looked, known, refused, Greeted, greeted, expected, is_user, is_password, is_client_name, is_some, after_first, lacks_password, is_stranger, is_for_strangers, admits, hello_admitted, admitted_by, or_admitted, answered, or_left, left_over, courtesy, asker_after, kind_of, words_of}
 
 -- ---- each value is answered
 
@@ -29,31 +30,31 @@ abbrev Tells : Looked → Type 0
 Tells (known Info words) = ⊥
 Tells looked = Unit {0}
 
-told : (asker : ClientInfo) (looked : Looked) → Tells looked → kind_of (answered asker looked) ≡ Said
-told asker (refused refusal) h = refl
-told asker (known Hello words) h = one_kind asker.listens _ _ refl refl
-told asker (known Auth words) h = one_kind asker.listens _ _ refl refl
-told asker (known Ping words) h = one_kind asker.listens _ _ refl refl
-told asker (known SetName words) h = one_kind asker.listens _ _ refl refl
-told asker (known SetInfo words) h = one_kind asker.listens _ _ refl refl
-told asker (known GetName words) h = one_kind asker.listens _ _ refl refl
-told asker (known Id words) h = one_kind asker.listens _ _ refl refl
-told asker (known OfClients words) h = one_kind asker.listens _ _ refl refl
-told asker (known Own words) h = one_kind asker.listens _ _ refl refl
-told asker (known Kill words) h = one_kind asker.listens _ _ refl refl
-told asker (known NoEvict words) h = one_kind asker.listens _ _ refl refl
-told asker (known Reply words) h = one_kind asker.listens _ _ refl refl
-told asker (known HelpOfClient words) h = one_kind asker.listens _ _ refl refl
-told asker (known Commands words) h = one_kind asker.listens _ _ refl refl
-told asker (known Docs words) h = one_kind asker.listens _ _ refl refl
-told asker (known Count words) h = one_kind asker.listens _ _ refl refl
-told asker (known InfoOfCommands words) h = one_kind asker.listens _ _ refl refl
-told asker (known ListOfCommands words) h = one_kind asker.listens _ _ refl refl
-told asker (known HelpOfCommand words) h = one_kind asker.listens _ _ refl refl
-told asker (known Role words) h = one_kind asker.listens _ _ refl refl
-told asker (known Publish words) h = one_kind asker.listens _ _ refl refl
-told asker (known (Sentinel sub) words) h = one_kind asker.listens _ _ refl refl
-told asker (known Info words) h = absurd h
+told : (roster : Roster) (asker : ClientInfo) (looked : Looked) → Tells looked → kind_of (answered roster asker looked) ≡ Said
+told roster asker (refused refusal) h = refl
+told roster asker (known Hello words) h = one_kind asker.listens _ _ refl refl
+told roster asker (known Auth words) h = one_kind asker.listens _ _ refl refl
+told roster asker (known Ping words) h = one_kind asker.listens _ _ refl refl
+told roster asker (known SetName words) h = one_kind asker.listens _ _ refl refl
+told roster asker (known SetInfo words) h = one_kind asker.listens _ _ refl refl
+told roster asker (known GetName words) h = one_kind asker.listens _ _ refl refl
+told roster asker (known Id words) h = one_kind asker.listens _ _ refl refl
+told roster asker (known OfClients words) h = one_kind asker.listens _ _ refl refl
+told roster asker (known Own words) h = one_kind asker.listens _ _ refl refl
+told roster asker (known Kill words) h = one_kind asker.listens _ _ refl refl
+told roster asker (known NoEvict words) h = one_kind asker.listens _ _ refl refl
+told roster asker (known Reply words) h = one_kind asker.listens _ _ refl refl
+told roster asker (known HelpOfClient words) h = one_kind asker.listens _ _ refl refl
+told roster asker (known Commands words) h = one_kind asker.listens _ _ refl refl
+told roster asker (known Docs words) h = one_kind asker.listens _ _ refl refl
+told roster asker (known Count words) h = one_kind asker.listens _ _ refl refl
+told roster asker (known InfoOfCommands words) h = one_kind asker.listens _ _ refl refl
+told roster asker (known ListOfCommands words) h = one_kind asker.listens _ _ refl refl
+told roster asker (known HelpOfCommand words) h = one_kind asker.listens _ _ refl refl
+told roster asker (known Role words) h = one_kind asker.listens _ _ refl refl
+told roster asker (known Publish words) h = one_kind asker.listens _ _ refl refl
+told roster asker (known (Sentinel sub) words) h = one_kind asker.listens _ _ refl refl
+told roster asker (known Info words) h = absurd h
 
 pick : (test : Bool) (one two : Looked) → Tells one → Tells two → Tells (elim test as (λ _. Looked) [ true ↦ one | false ↦ two ])
 pick true one two h k = h
@@ -71,29 +72,29 @@ doors_tell miscounted name words named =
     pick (is_called (codes "ping") name) _ _ (pick (nat_le (length words) 1) _ _ tt tt)
     (by_name (is_called (codes "hello") name) (is_called (codes "auth") name) _ _ _ named tt (pick (nat_lt 0 (length words)) _ _ tt tt))
 
-none_told : (asker : ClientInfo) → is_stranger asker ≡ true → kind_of (or_left asker None) ≡ Said
-none_told asker h = ap (λ (t : Bool). kind_of (elim t as (λ _. Answer) [ true ↦ said no_auth | false ↦ left ])) h
+none_told : (roster : Roster) (asker : ClientInfo) → is_stranger asker ≡ true → kind_of (or_left roster asker None) ≡ Said
+none_told roster asker h = ap (λ (t : Bool). kind_of (elim t as (λ _. Answer) [ true ↦ said no_auth | false ↦ left ])) h
 
 -- what a stranger asked is looked up only where it gives a password
-told_of : (asker : ClientInfo) (channels stranger door : Bool) (looked : Looked) → is_stranger asker ≡ true → stranger ≡ true → (door ≡ true → Tells looked)
-    → kind_of (or_left asker (elim (channels || (stranger && not door)) as (λ _. Option Looked) [ true ↦ None | false ↦ Some looked ])) ≡ Said
-told_of asker true stranger door looked h is tells = none_told asker h
-told_of asker false true true looked h is tells = told asker looked (tells refl)
-told_of asker false true false looked h is tells = none_told asker h
-told_of asker false false door looked h is tells = absurd (true≢false (sym is))
+told_of : (roster : Roster) (asker : ClientInfo) (channels stranger door : Bool) (looked : Looked) → is_stranger asker ≡ true → stranger ≡ true → (door ≡ true → Tells looked)
+    → kind_of (or_left roster asker (elim (channels || (stranger && not door)) as (λ _. Option Looked) [ true ↦ None | false ↦ Some looked ])) ≡ Said
+told_of roster asker true stranger door looked h is tells = none_told roster asker h
+told_of roster asker false true true looked h is tells = told roster asker looked (tells refl)
+told_of roster asker false true false looked h is tells = none_told roster asker h
+told_of roster asker false false door looked h is tells = absurd (true≢false (sym is))
 
-told_in : (asker : ClientInfo) (miscounted : Bool) (words : List (List ℕ)) → is_stranger asker ≡ true
-    → kind_of (or_left asker (table.looked_up_in asker miscounted words)) ≡ Said
-told_in asker miscounted [] h = none_told asker h
-told_in asker miscounted (name ∷ words) h =
-    told_of asker (table.names_channels (name ∷ words)) (is_stranger asker) (is_for_strangers name) (table.looked_up miscounted name words) h h
+told_in : (roster : Roster) (asker : ClientInfo) (miscounted : Bool) (words : List (List ℕ)) → is_stranger asker ≡ true
+    → kind_of (or_left roster asker (table.looked_up_in asker miscounted words)) ≡ Said
+told_in roster asker miscounted [] h = none_told roster asker h
+told_in roster asker miscounted (name ∷ words) h =
+    told_of roster asker (table.names_channels (name ∷ words)) (is_stranger asker) (is_for_strangers name) (table.looked_up miscounted name words) h h
     (doors_tell miscounted name words)
 
-pub strangers_are_answered : (asker : ClientInfo) (value : Frame) → is_stranger asker ≡ true → kind_of (courtesy asker value) ≡ Said
-strangers_are_answered asker value h =
+pub strangers_are_answered : (roster : Roster) (asker : ClientInfo) (value : Frame) → is_stranger asker ≡ true → kind_of (courtesy roster asker value) ≡ Said
+strangers_are_answered roster asker value h =
     one_kind (table.asks_nothing value) _ _ refl
     (one_kind (table.is_refused (redis_command_of value)) _ _
-    (told_in asker (table.is_miscounted (redis_command_of value)) (words_of value) h)
+    (told_in roster asker (table.is_miscounted (redis_command_of value)) (words_of value) h)
     (ap (λ (t : Bool). kind_of (elim t as (λ _. Answer) [ true ↦ said no_auth | false ↦ table.left ])) h))
 
 -- ---- HELLO and AUTH have the words after the name

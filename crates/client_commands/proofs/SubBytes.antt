@@ -1,9 +1,10 @@
 -- The bytes of what is told to subcommands of SENTINEL, and what CLIENT KILL chose.
 use Rattle.std.proofs.Common.{◌≡◌, ◌∙◌, ◌-◌, take, drop, get_or, ℕ, zero, suc, List, [], ◌∷◌, ◌++◌, ◌*◌, ◌≤◌, length, map, arith, decimal, refl, sym, ap, Bool, true, false, true≢false, Option, None, Some}
 use Rattle.std.proofs.lemmas.List.{take_all}
+use Rattle.ballot_law.specs.Rosters.{MasterPlan}
 use Rattle.resp2.specs.Framing.Frame.{Frame, bulk, items, count, frames_of, spelling, spellings, line_end}
 use Rattle.client_commands.specs.Choosing.{Wanted, Chosen, fits, unfit, anyone, chosen_by, with_option, with_options, is_fit, wanted_after, chosen_wanted, unfit_text}
-use Rattle.client_commands.specs.Courtesies.{ClientInfo, MonitoredMaster, uncached, cached, doomed, kill_answer}
+use Rattle.client_commands.specs.Courtesies.{ClientInfo, uncached, cached, doomed, kill_answer}
 
 count_bulks : (words : List (List ℕ)) → count (frames_of (map bulk words)) ≡ length words
 count_bulks [] = refl
@@ -20,11 +21,11 @@ count_uncached (suc n) = ap suc (count_uncached n)
 pub uncached_bytes : (n : ℕ) → spelling (items (uncached n)) ≡ 42 ∷ ((decimal n ++ line_end) ++ spellings (uncached n))
 uncached_bytes n = rw (count_uncached n) refl
 
-count_cached : (masters : List MonitoredMaster) → count (cached masters) ≡ length masters * 2
+count_cached : (masters : List MasterPlan) → count (cached masters) ≡ length masters * 2
 count_cached [] = refl
 count_cached (master ∷ masters) = let rest = count_cached masters in omega (arith, rest)
 
-pub cached_bytes : (masters : List MonitoredMaster)
+pub cached_bytes : (masters : List MasterPlan)
     → spelling (items (cached masters)) ≡ 42 ∷ ((decimal (length masters * 2) ++ line_end) ++ spellings (cached masters))
 cached_bytes masters = rw (count_cached masters) refl
 

@@ -3,6 +3,7 @@ use Rattle.std.specs.Prelude.{ℕ, zero, suc, pos, Bool, true, false, not, ◌||
 use Rattle.std.specs.List.{list_all, list_any}
 use Rattle.ballot_law.specs.declared.commands.Command.{Command}
 use Rattle.ballot_law.specs.declared.commands.Command.TheVariants.{Masters, Master, Replicas, Sentinels, CkQuorum}
+use Rattle.ballot_law.specs.Rosters.{MasterPlan, Roster}
 use Rattle.ballot_law.specs.Words.{lower, canonical_within, ip_text}
 use Rattle.pubsub.specs.Globs.{matches}
 use Rattle.resp2.specs.declared.command.CommandFault.{CommandFault}
@@ -16,44 +17,38 @@ use Rattle.client_commands.specs.declared.subcommands.Sub.TheVariants.{Help, Pen
 use Rattle.client_commands.specs.declared.hellos.Expects.{Expects}
 use Rattle.client_commands.specs.declared.hellos.Expects.TheVariants.{Start, User, Password, NewName}
 use Rattle.client_commands.specs.declared.courtesies.Courtesy.{Courtesy}
-use Rattle.client_commands.specs.declared.courtesies.Courtesy.TheVariants.{Left, Said, AsksMasters}
+use Rattle.client_commands.specs.declared.courtesies.Courtesy.TheVariants.{Left, Said, AsksInfo}
 use Rattle.client_commands.specs.declared.port_facts.Figures.{Figures}
 use Rattle.client_commands.specs.Ports.{PortFacts}
 use Rattle.client_commands.specs.declared.protocols.Protocol.{Protocol}
 use Rattle.client_commands.specs.Protocols.{version, protocol_asked}
 use Rattle.client_commands.specs.Choosing.{Wanted, Chosen, fits, unfit, anyone, kind_named, no_kind, chosen_by, places_of}
 use Rattle.client_commands.specs.ClientLines.{client_lines}
+use Rattle.client_commands.specs.Sections.{is_told, port_sections}
 use Rattle.client_commands.specs.Subcommands.{sub_name, all_subs, sub_among, takes_count, not_at_runtime, no_trials, only_get}
 use Rattle.client_commands.specs.Rows.{families}
 use Rattle.client_commands.specs.Tables.{table, command_info, command_docs, command_list}
 use Rattle.client_commands.specs.Helps.{told_lines, sentinel_help, client_help, command_help}
 use Rattle.client_commands.specs.Refusals.{is_called, printed_byte, wrong_arguments, unknown_subcommand, unknown_command, syntax_error, wrong_password, no_password, no_auth, no_auth_yet, no_name, no_such_protocol, no_protocol, no_option, no_hello, not_while_listening}
 
--- a master that a Sentinel watches, and how many data nodes it has in all
-pub record MonitoredMaster : Type 0 where
-  pub name : List ℕ
-  pub nodes : ℕ
-
--- what is known of a connection: its number, the name that its client gave it, which protocol it speaks, whether it listens and so has no other commands, the
--- Sentinel's masters, the password that is wanted of its client, where one is, and whether the client gave it; the Sentinel's current epoch as it was last told, where
--- that was; and what its port knows
+-- what is known of a connection: its number, the name that its client gave it, which protocol it speaks, whether it listens and so has no other commands, the password
+-- that is wanted of its client, where one is, and whether the client gave it; the Sentinel's current epoch as it was last told, where that was; and what its port knows
 pub record ClientInfo : Type 0 where
   pub id : ℕ
   pub name : List ℕ
   pub protocol : Protocol
   pub listens : Bool
-  pub masters : List MonitoredMaster
   pub password : Option (List ℕ)
   pub admitted : Bool
   pub current : Option ℕ
   pub port : PortFacts
 
--- what becomes of a value: the Sentinel's rules answer it, it is answered by this value, or by what is told of the
--- Sentinel's masters, or it has no answer
+-- what becomes of a value: the Sentinel's rules answer it, it is answered by this value, or by what INFO says of the
+-- Sentinel too, or it has no answer
 pub data Answer : Type 0 where
   left : Answer
   said : Frame → Answer
-  asks_masters : Answer
+  asks_info : Answer
   silent : Answer
 
 -- ---- which command the words are
@@ -463,18 +458,18 @@ uncached zero = no_frames
 uncached (suc n) = frame (items (frames_of (int (pos 0) ∷ null_bulk ∷ []))) (uncached n)
 
 -- the masters that a word names
-abbrev pub named_masters : List (List ℕ) → List MonitoredMaster → List MonitoredMaster
+abbrev pub named_masters : List (List ℕ) → List MasterPlan → List MasterPlan
 named_masters words [] = []
 named_masters words (master ∷ masters) =
-    elim (list_any (bytes_eq master.name) words) as (λ _. List MonitoredMaster) [
+    elim (list_any (bytes_eq master.name) words) as (λ _. List MasterPlan) [
       | true ↦ master ∷ named_masters words masters
       | false ↦ named_masters words masters
     ]
 
 -- of each its name, and what is kept of its data nodes
-abbrev pub cached : List MonitoredMaster → FrameList
+abbrev pub cached : List MasterPlan → FrameList
 cached [] = no_frames
-cached (master ∷ masters) = frame (bulk master.name) (frame (items (uncached master.nodes)) (cached masters))
+cached (master ∷ masters) = frame (bulk master.name) (frame (items (uncached (length master.nodes))) (cached masters))
 
 -- a setting and its value, where the pattern matches its name
 abbrev pub setting : (pattern name value : List ℕ) → List (List ℕ)
@@ -497,17 +492,17 @@ config asker (mode ∷ pattern ∷ []) = elim (is_called (codes "get") mode) [ t
 config asker (mode ∷ option ∷ value ∷ []) = elim (is_called (codes "set") mode) [ true ↦ not_at_runtime (codes "CONFIG SET") | false ↦ only_get ]
 config asker words = only_get
 
-abbrev pub sentinel_told : ClientInfo → Sub → List (List ℕ) → Frame
-sentinel_told asker Help words = told_lines sentinel_help
-sentinel_told asker PendingScripts words = items no_frames
-sentinel_told asker InfoCache words = items (cached (named_masters words asker.masters))
-sentinel_told asker Config words = config asker words
-sentinel_told asker SetOption words = not_at_runtime (codes "SET")
-sentinel_told asker Monitor words = not_at_runtime (codes "MONITOR")
-sentinel_told asker Remove words = not_at_runtime (codes "REMOVE")
-sentinel_told asker Reset words = not_at_runtime (codes "RESET")
-sentinel_told asker Simulate words = no_trials (codes "SIMULATE-FAILURE")
-sentinel_told asker Debug words = no_trials (codes "DEBUG")
+abbrev pub sentinel_told : Roster → ClientInfo → Sub → List (List ℕ) → Frame
+sentinel_told roster asker Help words = told_lines sentinel_help
+sentinel_told roster asker PendingScripts words = items no_frames
+sentinel_told roster asker InfoCache words = items (cached (named_masters words roster.masters))
+sentinel_told roster asker Config words = config asker words
+sentinel_told roster asker SetOption words = not_at_runtime (codes "SET")
+sentinel_told roster asker Monitor words = not_at_runtime (codes "MONITOR")
+sentinel_told roster asker Remove words = not_at_runtime (codes "REMOVE")
+sentinel_told roster asker Reset words = not_at_runtime (codes "RESET")
+sentinel_told roster asker Simulate words = no_trials (codes "SIMULATE-FAILURE")
+sentinel_told roster asker Debug words = no_trials (codes "DEBUG")
 
 -- ---- CLIENT, ROLE, PUBLISH
 
@@ -518,7 +513,7 @@ no_evict words = elim (is_called (codes "on") (first words) || is_called (codes 
 abbrev pub reply : List (List ℕ) → Frame
 reply words = elim (is_called (codes "on") (first words)) [ true ↦ ok | false ↦ syntax_error ]
 
-abbrev pub names_of : List MonitoredMaster → List (List ℕ)
+abbrev pub names_of : List MasterPlan → List (List ℕ)
 names_of [] = []
 names_of (master ∷ masters) = master.name ∷ names_of masters
 
@@ -533,31 +528,36 @@ is_hello_channel word = bytes_eq word (codes "__sentinel__:hello")
 abbrev pub publish : List (List ℕ) → Frame
 publish words = elim (is_hello_channel (first words)) [ true ↦ int (pos 1) | false ↦ no_hello ]
 
+-- the answer to INFO: what its port knows is said at once, where no word asks for more
+abbrev pub info_answer : ClientInfo → List (List ℕ) → Answer
+info_answer asker words =
+    elim (is_told (codes "sentinel") words) as (λ _. Answer) [ true ↦ asks_info | false ↦ said (bulk (port_sections words asker.port.figures)) ]
+
 -- the answer to a command of a connection that doesn't listen
-abbrev pub executed : ClientInfo → Verb → List (List ℕ) → Answer
-executed asker Ping words = said (bulk (first words))
-executed asker Hello words = said (hello asker words)
-executed asker Auth words = said (auth asker.password words)
-executed asker SetName words = said (set_name words)
-executed asker SetInfo words = said ok
-executed asker GetName words = said (get_name asker.name)
-executed asker Id words = said (int (pos asker.id))
-executed asker OfClients words = said (client_list asker words)
-executed asker Own words = said (own_line asker)
-executed asker Kill words = said (kill asker words)
-executed asker NoEvict words = said (no_evict words)
-executed asker Reply words = said (reply words)
-executed asker HelpOfClient words = said (told_lines client_help)
-executed asker Commands words = said table
-executed asker Docs words = said (command_docs words)
-executed asker Count words = said (int (pos (length families)))
-executed asker InfoOfCommands words = said (command_info words)
-executed asker ListOfCommands words = said (command_list words)
-executed asker HelpOfCommand words = said (told_lines command_help)
-executed asker Role words = said (role (names_of asker.masters))
-executed asker Publish words = said (publish words)
-executed asker Info words = asks_masters
-executed asker (Sentinel sub) words = said (sentinel_told asker sub words)
+abbrev pub executed : Roster → ClientInfo → Verb → List (List ℕ) → Answer
+executed roster asker Ping words = said (bulk (first words))
+executed roster asker Hello words = said (hello asker words)
+executed roster asker Auth words = said (auth asker.password words)
+executed roster asker SetName words = said (set_name words)
+executed roster asker SetInfo words = said ok
+executed roster asker GetName words = said (get_name asker.name)
+executed roster asker Id words = said (int (pos asker.id))
+executed roster asker OfClients words = said (client_list asker words)
+executed roster asker Own words = said (own_line asker)
+executed roster asker Kill words = said (kill asker words)
+executed roster asker NoEvict words = said (no_evict words)
+executed roster asker Reply words = said (reply words)
+executed roster asker HelpOfClient words = said (told_lines client_help)
+executed roster asker Commands words = said table
+executed roster asker Docs words = said (command_docs words)
+executed roster asker Count words = said (int (pos (length families)))
+executed roster asker InfoOfCommands words = said (command_info words)
+executed roster asker ListOfCommands words = said (command_list words)
+executed roster asker HelpOfCommand words = said (told_lines command_help)
+executed roster asker Role words = said (role (names_of roster.masters))
+executed roster asker Publish words = said (publish words)
+executed roster asker Info words = info_answer asker words
+executed roster asker (Sentinel sub) words = said (sentinel_told roster asker sub words)
 
 -- the answer to PING of a connection that listens
 abbrev pub pong : List (List ℕ) → Frame
@@ -612,9 +612,9 @@ names_channels [] = false
 names_channels (name ∷ []) = false
 names_channels (name ∷ word ∷ words) = is_called (codes "subscribe") name
 
-abbrev pub answered : ClientInfo → Looked → Answer
-answered asker (refused refusal) = said refusal
-answered asker (known verb words) = elim asker.listens [ true ↦ said (while_listening verb words) | false ↦ executed asker verb words ]
+abbrev pub answered : Roster → ClientInfo → Looked → Answer
+answered roster asker (refused refusal) = said refusal
+answered roster asker (known verb words) = elim asker.listens [ true ↦ said (while_listening verb words) | false ↦ executed roster asker verb words ]
 
 abbrev pub named : ClientInfo → Looked → List ℕ
 named asker (refused refusal) = asker.name
@@ -645,9 +645,9 @@ left_over asker value =
 abbrev pub unless_stranger : ClientInfo → Answer → Answer
 unless_stranger asker answer = elim (is_stranger asker) [ true ↦ said no_auth | false ↦ answer ]
 
-abbrev pub or_left : ClientInfo → Option Looked → Answer
-or_left asker None = unless_stranger asker left
-or_left asker (Some looked) = answered asker looked
+abbrev pub or_left : Roster → ClientInfo → Option Looked → Answer
+or_left roster asker None = unless_stranger asker left
+or_left roster asker (Some looked) = answered roster asker looked
 
 abbrev pub or_same : ClientInfo → Option Looked → List ℕ
 or_same asker None = asker.name
@@ -672,16 +672,16 @@ asks_nothing null_items = true
 asks_nothing value = false
 
 -- the answer to a value that asks for something
-abbrev pub reply_to : ClientInfo → Frame → Answer
-reply_to asker value =
+abbrev pub reply_to : Roster → ClientInfo → Frame → Answer
+reply_to roster asker value =
     elim (is_refused (redis_command_of value)) [
-      | true ↦ or_left asker (looked_up_in asker (is_miscounted (redis_command_of value)) (words_of value))
+      | true ↦ or_left roster asker (looked_up_in asker (is_miscounted (redis_command_of value)) (words_of value))
       | false ↦ unless_stranger asker left
     ]
 
--- the answer to a value of a connection
-abbrev pub courtesy : ClientInfo → Frame → Answer
-courtesy asker value = elim (asks_nothing value) as (λ _. Answer) [ true ↦ silent | false ↦ reply_to asker value ]
+-- the answer to a value of a connection, at a Sentinel with this roster
+abbrev pub courtesy : Roster → ClientInfo → Frame → Answer
+courtesy roster asker value = elim (asks_nothing value) as (λ _. Answer) [ true ↦ silent | false ↦ reply_to roster asker value ]
 
 -- what is known of the connection after it
 abbrev pub asker_after : ClientInfo → Frame → ClientInfo
@@ -698,12 +698,12 @@ asker_after asker value =
 abbrev pub kind_of : Answer → Courtesy
 kind_of left = Left
 kind_of (said answer) = Said
-kind_of asks_masters = AsksMasters
+kind_of asks_info = AsksInfo
 kind_of silent = Said
 
 -- its bytes on the wire, where it is known
 abbrev pub text_of : Answer → List ℕ
 text_of left = []
 text_of (said answer) = spelling answer
-text_of asks_masters = []
+text_of asks_info = []
 text_of silent = []

@@ -9,6 +9,7 @@ pub mod Pieces
 pub mod Rows
 pub mod Descriptions
 pub mod Tables
+pub mod Sections
 pub mod Courtesies
 pub mod Infos
 pub mod Lines

@@ -1,5 +1,5 @@
 -- What a port knows of itself and of its clients, as a session is told it.
-use Rattle.std.specs.Prelude.{ℕ, ◌+◌, Bool, true, false, not, ◌||◌, ◌==◌, nat_lt, List, [], ◌∷◌, None}
+use Rattle.std.specs.Prelude.{ℕ, ◌+◌, Bool, true, false, not, ◌||◌, ◌==◌, nat_lt, List, [], ◌∷◌}
 use Rattle.client_commands.specs.declared.port_facts.Figures.{Figures}
 use Rattle.client_commands.specs.declared.protocols.Protocol.{Protocol}
 
@@ -53,7 +53,6 @@ no_figures =
       commands = 0;
       user_time = 0;
       system_time = 0;
-      tilt = None;
     }
 
 abbrev pub no_port : PortFacts

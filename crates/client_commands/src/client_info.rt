@@ -6,52 +6,9 @@ ghost use Rattle.client_commands.specs.Courtesies.{is_some, lacks_password, is_s
 use crate::passwords::is_same;
 use crate::port_facts::PortFacts;
 use crate::protocols::Protocol;
-use ballot_law::{Name, NoMemory, Text};
+use ballot_law::{NoMemory, Text};
 use std::marker::Model;
 use std::mem;
-
-/// A master that a Sentinel watches.
-#[derive(Drop)]
-pub struct MonitoredMaster {
-    /// Its name.
-    pub name: Name,
-    /// How many data nodes it has, itself too.
-    pub nodes: usize,
-}
-
-impl Model for MonitoredMaster {
-    ghost use Rattle.client_commands.specs.Courtesies.{MonitoredMaster as MonitoredMasterModel};
-
-    ghost Value = { MonitoredMasterModel };
-
-    ghost view = { λ master. record { name = master.name; nodes = master.nodes } };
-}
-
-impl MonitoredMaster {
-    /// The same.
-    pub(crate) fn copy(&self) -> MonitoredMaster
-        ensures { result ≡ self.now }
-    {
-        MonitoredMaster {
-            name: self.name,
-            nodes: self.nodes,
-        }
-    }
-
-    /// The name.
-    pub(crate) fn name(&self) -> &[u8]
-        ensures { result.now ≡ self.now.name }
-    {
-        self.name.as_slice()
-    }
-
-    /// How many data nodes it has.
-    pub(crate) fn nodes(&self) -> usize
-        ensures { result ≡ self.now.nodes }
-    {
-        self.nodes
-    }
-}
 
 /// What is known of a connection.
 #[derive(Drop)]
@@ -64,8 +21,6 @@ pub struct ClientInfo {
     pub protocol: Protocol,
     /// Whether it listens, and so has no commands but those of Pub/Sub and PING.
     pub listens: bool,
-    /// The Sentinel's masters, in the roster's order.
-    pub masters: Vec<MonitoredMaster>,
     /// The password that is wanted of its client; none where every client is admitted.
     pub password: Option<Text>,
     /// Whether the client gave the password.
@@ -86,7 +41,6 @@ impl Model for ClientInfo {
       name = asker.name;
       protocol = asker.protocol;
       listens = asker.listens;
-      masters = asker.masters.items;
       password = asker.password;
       admitted = asker.admitted;
       current = asker.current;
@@ -128,13 +82,6 @@ impl ClientInfo {
         ensures { result ≡ self.now.listens }
     {
         self.listens
-    }
-
-    /// The masters.
-    pub(crate) fn masters(&self) -> &[MonitoredMaster]
-        ensures { result.now ≡ self.now.masters }
-    {
-        self.masters.as_slice()
     }
 
     /// Whether a password is wanted.
@@ -187,13 +134,6 @@ impl ClientInfo {
         ensures { self.new ≡ record self.old { listens = listens } }
     {
         self.listens = listens;
-    }
-
-    /// Has it know these masters.
-    pub(crate) fn watch(&mut self, masters: Vec<MonitoredMaster>)
-        ensures { self.new ≡ record self.old { masters = masters.items } }
-    {
-        self.masters = masters;
     }
 
     /// Has it want this password, which its client didn't give.

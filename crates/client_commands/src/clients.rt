@@ -5,10 +5,9 @@ ghost use Rattle.resp2.specs.Framing.Frame as frames;
 ghost use Rattle.resp2.specs.Framing.Frame.{spelling, spellings, frames_of, line_end};
 ghost use Rattle.client_commands.specs.Courtesies.{get_name, no_evict, reply, names_of, role, is_hello_channel, publish, pong};
 
-use crate::client_info::MonitoredMaster;
 use crate::hellos::first;
 use crate::refusals::{is_called, say};
-use ballot_law::{NoMemory, Text};
+use ballot_law::{NoMemory, Text, Watched};
 use itoa::Buffer;
 use resp2::{OutText, push_bulk};
 
@@ -91,19 +90,19 @@ pub(crate) fn reply(words: &[Text], out: &mut OutText) -> Result<(), NoMemory>
 }
 
 /// Adds the names of masters.
-fn add_names(out: &mut OutText, masters: &[MonitoredMaster]) -> Result<(), NoMemory>
+fn add_names(out: &mut OutText, masters: &[Watched]) -> Result<(), NoMemory>
     ensures { OnOk result (out.new ≡ out.old ++ spellings (frames_of (map frames.bulk (names_of masters.now)))) }
 {
     let mut rest = masters;
     while let [master, more @ ..] = rest {
-        push_bulk(out, master.name())?;
+        push_bulk(out, master.name.as_slice())?;
         rest = more;
     }
     Ok(())
 }
 
 /// The answer is the number of masters and then their names, after a text.
-fn say_names(out: &mut OutText, before: &[u8], masters: &[MonitoredMaster]) -> Result<(), NoMemory>
+fn say_names(out: &mut OutText, before: &[u8], masters: &[Watched]) -> Result<(), NoMemory>
     ensures { OnOk result (out.new ≡ before.now ++ ((decimal (length masters.now) ++ line_end) ++ spellings (frames_of (map frames.bulk (names_of masters.now))))) }
 {
     say(out, before)?;
@@ -112,7 +111,7 @@ fn say_names(out: &mut OutText, before: &[u8], masters: &[MonitoredMaster]) -> R
 }
 
 /// The answer to ROLE at a Sentinel with these masters.
-pub(crate) fn role(masters: &[MonitoredMaster], out: &mut OutText) -> Result<(), NoMemory>
+pub(crate) fn role(masters: &[Watched], out: &mut OutText) -> Result<(), NoMemory>
     ensures { OnOk result (out.new ≡ spelling (role (names_of masters.now))) }
 {
     say_names(out, b"*2\r\n$8\r\nsentinel\r\n*", masters)

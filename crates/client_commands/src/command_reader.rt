@@ -10,13 +10,13 @@ ghost use Rattle.client_commands.specs.Courtesies.{courtesy, asker_after, is_str
 ghost use Rattle.client_commands.specs.Infos.{info};
 ghost use Rattle.client_commands.specs.Lines.{Answers};
 
-use crate::client_info::{ClientInfo, MonitoredMaster};
+use crate::client_info::ClientInfo;
 use crate::courtesies::{Courtesy, courtesy_of};
 use crate::infos::info;
 use crate::lines::{next_common, next_value};
 use crate::port_facts::PortFacts;
 use crate::protocols::Protocol;
-use ballot_law::{Command, NoMemory, Text};
+use ballot_law::{Command, NoMemory, Roster, Text};
 use resp2::{FrameFault, Frames, OutText, Value};
 use std::alloc::Global;
 use std::marker::Model;
@@ -101,13 +101,6 @@ impl CommandReader {
         ensures { self.new ≡ record self.old { asker = record self.old.asker { listens = listens } } }
     {
         self.asker.listen(listens);
-    }
-
-    /// Has it know the masters of the Sentinel, in the roster's order.
-    pub fn note_masters(&mut self, masters: Vec<MonitoredMaster>)
-        ensures { self.new ≡ record self.old { asker = record self.old.asker { masters = masters.items } } }
-    {
-        self.asker.watch(masters);
     }
 
     /// The Sentinel's current epoch as it was last told; none where none was.
@@ -206,28 +199,29 @@ impl CommandReader {
         next_common(&mut self.frames)
     }
 
-    /// Attends to a value: what becomes of it. `Left`: the session is to have it. `AsksMasters`: it is INFO, whose
-    /// answer `inform` makes. `Said`: the text is its answer, of no bytes after an array without items, as an empty
-    /// line is one; else the text is empty.
+    /// Attends to a value, where the Sentinel has this roster: what becomes of it. `Left`: the session is to have it.
+    /// `AsksInfo`: it is INFO, and the Sentinel is to be asked for its section, of which `inform` makes the answer.
+    /// `Said`: the text is its answer, of no bytes after an array without items, as an empty line is one; else the text
+    /// is empty.
     ///
     /// `NoMemory`: memory was refused; the connection is to be closed.
-    pub fn attend_to(&mut self, value: &Value) -> Result<Courtesy, NoMemory>
-        ensures kind { IfOk result (λ kind. kind ≡ kind_of (courtesy self.old.asker (view value.now))) }
-        ensures text { OnOk result (self.new.text ≡ text_of (courtesy self.old.asker (view value.now))) }
+    pub fn attend_to(&mut self, value: &Value, roster: &Roster) -> Result<Courtesy, NoMemory>
+        ensures kind { IfOk result (λ kind. kind ≡ kind_of (courtesy roster.now self.old.asker (view value.now))) }
+        ensures text { OnOk result (self.new.text ≡ text_of (courtesy roster.now self.old.asker (view value.now))) }
         ensures asker { OnOk result (self.new.asker ≡ asker_after self.old.asker (view value.now)) }
         ensures held { self.new.held ≡ self.old.held }
     {
-        courtesy_of(self.alloc, &mut self.asker, value, &mut self.text)
+        courtesy_of(self.alloc, &mut self.asker, value, roster, &mut self.text)
     }
 
-    /// Has the text be the answer to this value, which is INFO, where the Sentinel answers SENTINEL MASTERS with
-    /// `masters`. `NoMemory`: memory was refused; the connection is to be closed.
-    pub fn inform(&mut self, value: &Value, masters: &Value) -> Result<(), NoMemory>
-        ensures text { OnOk result (self.new.text ≡ spelling (info self.old.asker.port.figures (view value.now) (view masters.now))) }
+    /// Has the text be the answer to this value, which is INFO, where the Sentinel answers with `section`, a bulk string,
+    /// when it is asked for its section. `NoMemory`: memory was refused; the connection is to be closed.
+    pub fn inform(&mut self, value: &Value, section: &Value) -> Result<(), NoMemory>
+        ensures text { OnOk result (self.new.text ≡ spelling (info self.old.asker.port.figures (view value.now) (view section.now))) }
         ensures asker { self.new.asker ≡ self.old.asker }
         ensures held { self.new.held ≡ self.old.held }
     {
         let figures = self.asker.port().figures();
-        info(self.alloc, value, figures, masters, &mut self.text)
+        info(self.alloc, value, figures, section, &mut self.text)
     }
 }

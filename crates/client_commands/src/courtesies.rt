@@ -1,14 +1,16 @@
 //! What becomes of a value.
 
-ghost use Rattle.std.specs.Prelude.{◌≡◌, ℕ, List, [], None, IfOk, OnOk};
+ghost use Rattle.std.specs.Prelude.{◌≡◌, [], None, IfOk, OnOk};
 ghost use Rattle.resp2.specs.Framing.Frame as frames;
 ghost use Rattle.resp2.specs.Framing.Frame.{view, frames_view, spelling};
-ghost use Rattle.client_commands.specs.Courtesies.{ClientInfo, known, executed, while_listening, name_after, admitted_after, killed_after, killed_by, or_killed, protocol_after, protocol_by, or_protocol, is_for_strangers, is_barred, admitted_by, or_admitted, words_of, is_miscounted, is_refused, names_channels, answered, named, looked_up_in, left, unless_stranger, or_left, or_same, asks_nothing, reply_to, courtesy, asker_after, kind_of, text_of};
+ghost use Rattle.ballot_law.specs.Rosters.{Roster};
+ghost use Rattle.client_commands.specs.Courtesies.{ClientInfo, known, hello, auth, set_name, info_answer, executed, while_listening, name_after, admitted_after, killed_after, killed_by, or_killed, protocol_after, protocol_by, or_protocol, is_for_strangers, is_barred, admitted_by, or_admitted, words_of, is_miscounted, is_refused, names_channels, answered, named, looked_up_in, left, unless_stranger, or_left, or_same, asks_nothing, reply_to, courtesy, asker_after, kind_of, text_of};
 
 use crate::client_info::ClientInfo;
 use crate::clients::{get_name, no_evict, pong, publish, reply, role, say_bulk, say_number};
 use crate::hellos::{auth, first, hello, is_client_name, set_name};
 use crate::helps::{client_help, command_help};
+use crate::infos::{answer_info, asks_sentinel};
 use crate::kills::kill;
 use crate::listing::{client_list, own_line};
 use crate::lookup::looked_up;
@@ -17,7 +19,7 @@ use crate::rows::families;
 use crate::tables::{command_docs, command_info, command_list, say_table};
 use crate::told_subcommands::sentinel_told;
 use crate::verbs::Verb;
-use ballot_law::{Command, NoMemory, Text};
+use ballot_law::{Command, NoMemory, Roster, Text};
 use resp2::{CommandFault, OutText, Value, redis_command_of, words_of_items};
 use std::alloc::Global;
 
@@ -30,8 +32,8 @@ pub enum Courtesy {
     Left,
     /// Its answer is told, where it has one.
     Said,
-    /// It is INFO, whose answer is made of that to SENTINEL MASTERS.
-    AsksMasters,
+    /// It is INFO, whose answer has the section that the Sentinel has when it is asked for it.
+    AsksInfo,
 }
 
 /// Whether the Sentinel's rules call a value unknown or refuse its number of words.
@@ -92,7 +94,7 @@ fn greet(
     words: &[Text],
     out: &mut OutText,
 ) -> Result<(), NoMemory>
-    ensures text { OnOk result (out.new ≡ text_of (executed asker.old Verb.Hello words.now)) }
+    ensures text { OnOk result (out.new ≡ spelling (hello asker.old words.now)) }
     ensures asker { OnOk result (asker.new ≡ record asker.old {
       name = name_after asker.old Verb.Hello words.now;
       protocol = protocol_after asker.old Verb.Hello words.now;
@@ -111,7 +113,7 @@ fn greet(
 
 /// AUTH with these words.
 fn log_in(asker: &mut ClientInfo, words: &[Text], out: &mut OutText) -> Result<(), NoMemory>
-    ensures text { OnOk result (out.new ≡ text_of (executed asker.old Verb.Auth words.now)) }
+    ensures text { OnOk result (out.new ≡ spelling (auth asker.old.password words.now)) }
     ensures asker { OnOk result (asker.new ≡ record asker.old { admitted = admitted_after asker.old Verb.Auth words.now }) }
 {
     if auth(asker, words, out)? {
@@ -127,7 +129,7 @@ fn rename(
     words: &[Text],
     out: &mut OutText,
 ) -> Result<(), NoMemory>
-    ensures text { OnOk result (out.new ≡ text_of (executed asker.old Verb.SetName words.now)) }
+    ensures text { OnOk result (out.new ≡ spelling (set_name words.now)) }
     ensures asker { OnOk result (asker.new ≡ record asker.old { name = name_after asker.old Verb.SetName words.now }) }
 {
     set_name(words, out)?;
@@ -142,12 +144,13 @@ fn rename(
 /// to be closed.
 fn execute(
     alloc: Global,
+    roster: &Roster,
     asker: &mut ClientInfo,
     verb: Verb,
     words: &[Text],
     out: &mut OutText,
 ) -> Result<(), NoMemory>
-    ensures text { OnOk result (out.new ≡ text_of (executed asker.old verb words.now)) }
+    ensures text { OnOk result (out.new ≡ text_of (executed roster.now asker.old verb words.now)) }
     ensures asker { OnOk result (asker.new ≡ record asker.old {
       name = name_after asker.old verb words.now;
       protocol = protocol_after asker.old verb words.now;
@@ -175,20 +178,31 @@ fn execute(
         Verb::InfoOfCommands => command_info(words, out),
         Verb::ListOfCommands => command_list(alloc, words, out),
         Verb::HelpOfCommand => command_help(out),
-        Verb::Role => role(asker.masters(), out),
+        Verb::Role => role(roster.masters(), out),
         Verb::Publish => publish(words, out),
-        Verb::Info => say(out, &[]),
-        Verb::Sentinel(sub) => sentinel_told(alloc, asker, sub, words, out),
+        Verb::Info => answer_info(alloc, asker, words, out),
+        Verb::Sentinel(sub) => sentinel_told(alloc, asker, roster, sub, words, out),
     }
 }
 
 /// What becomes of a command of a connection that doesn't listen.
-fn kind_of(verb: Verb) -> Courtesy
-    ensures { (asker : ClientInfo) (words : List (List ℕ)) → result ≡ kind_of (executed asker verb words) }
+fn kind_of(verb: Verb, words: &[Text]) -> Courtesy
+    ensures { (roster : Roster) (asker : ClientInfo) → result ≡ kind_of (executed roster asker verb words.now) }
 {
     match verb {
-        Verb::Info => Courtesy::AsksMasters,
+        Verb::Info => kind_of_info(words),
         _ => Courtesy::Said,
+    }
+}
+
+/// What becomes of INFO with these words.
+fn kind_of_info(words: &[Text]) -> Courtesy
+    ensures { (asker : ClientInfo) → result ≡ kind_of (info_answer asker words.now) }
+{
+    if asks_sentinel(words) {
+        Courtesy::AsksInfo
+    } else {
+        Courtesy::Said
     }
 }
 
@@ -209,13 +223,14 @@ fn is_barred(asker: &ClientInfo, name: &[u8]) -> bool
 /// What becomes of a command with these words.
 fn answer_known(
     alloc: Global,
+    roster: &Roster,
     asker: &mut ClientInfo,
     verb: Verb,
     words: &[Text],
     out: &mut OutText,
 ) -> Result<Courtesy, NoMemory>
-    ensures kind { IfOk result (λ kind. kind ≡ kind_of (answered asker.old (known verb words.now))) }
-    ensures text { OnOk result (out.new ≡ text_of (answered asker.old (known verb words.now))) }
+    ensures kind { IfOk result (λ kind. kind ≡ kind_of (answered roster.now asker.old (known verb words.now))) }
+    ensures text { OnOk result (out.new ≡ text_of (answered roster.now asker.old (known verb words.now))) }
     ensures asker { OnOk result (asker.new ≡ record asker.old {
       name = named asker.old (known verb words.now);
       protocol = protocol_by asker.old (known verb words.now);
@@ -227,8 +242,8 @@ fn answer_known(
         answer_listener(verb, words, out)?;
         return Ok(Courtesy::Said);
     }
-    execute(alloc, asker, verb, words, out)?;
-    Ok(kind_of(verb))
+    execute(alloc, roster, asker, verb, words, out)?;
+    Ok(kind_of(verb, words))
 }
 
 /// What becomes of a value that the rules of the Sentinel answer: it is left to them, once the client gave the password
@@ -250,14 +265,15 @@ fn leave(asker: &ClientInfo, out: &mut OutText) -> Result<Courtesy, NoMemory>
 #[tactic(auto, using(crate::proofs::Lookups::known_is, crate::proofs::Lookups::refused_kind, crate::proofs::Lookups::refused_text, crate::proofs::Lookups::refused_name, crate::proofs::Lookups::refused_kills, crate::proofs::Lookups::refused_protocol, crate::proofs::Lookups::refused_same))]
 fn answer_words(
     alloc: Global,
+    roster: &Roster,
     asker: &mut ClientInfo,
     miscounted: bool,
     words: &[Text],
     out: &mut OutText,
 ) -> Result<Courtesy, NoMemory>
     requires { out.old ≡ [] }
-    ensures kind { IfOk result (λ kind. kind ≡ kind_of (or_left asker.old (looked_up_in asker.old miscounted words.now))) }
-    ensures text { OnOk result (out.new ≡ text_of (or_left asker.old (looked_up_in asker.old miscounted words.now))) }
+    ensures kind { IfOk result (λ kind. kind ≡ kind_of (or_left roster.now asker.old (looked_up_in asker.old miscounted words.now))) }
+    ensures text { OnOk result (out.new ≡ text_of (or_left roster.now asker.old (looked_up_in asker.old miscounted words.now))) }
     ensures asker { OnOk result (asker.new ≡ record asker.old {
       name = or_same asker.old (looked_up_in asker.old miscounted words.now);
       protocol = or_protocol asker.old (looked_up_in asker.old miscounted words.now);
@@ -272,7 +288,7 @@ fn answer_words(
         return leave(asker, out);
     }
     match looked_up(miscounted, name.as_slice(), more, out)? {
-        Some((verb, args)) => answer_known(alloc, asker, verb, args, out),
+        Some((verb, args)) => answer_known(alloc, roster, asker, verb, args, out),
         None => Ok(Courtesy::Said),
     }
 }
@@ -299,13 +315,14 @@ fn asks_nothing(value: &Value) -> bool
 /// What becomes of a value that asks for something.
 fn reply_to(
     alloc: Global,
+    roster: &Roster,
     asker: &mut ClientInfo,
     value: &Value,
     out: &mut OutText,
 ) -> Result<Courtesy, NoMemory>
     requires { out.old ≡ [] }
-    ensures kind { IfOk result (λ kind. kind ≡ kind_of (reply_to asker.old (view value.now))) }
-    ensures text { OnOk result (out.new ≡ text_of (reply_to asker.old (view value.now))) }
+    ensures kind { IfOk result (λ kind. kind ≡ kind_of (reply_to roster.now asker.old (view value.now))) }
+    ensures text { OnOk result (out.new ≡ text_of (reply_to roster.now asker.old (view value.now))) }
     ensures asker { OnOk result (asker.new ≡ asker_after asker.old (view value.now)) }
 {
     let asked = redis_command_of(value);
@@ -313,11 +330,12 @@ fn reply_to(
         return leave(asker, out);
     }
     let words = words_of(alloc, value)?;
-    answer_words(alloc, asker, is_miscounted(&asked), words.as_slice(), out)
+    let miscounted = is_miscounted(&asked);
+    answer_words(alloc, roster, asker, miscounted, words.as_slice(), out)
 }
 
-/// What becomes of a value of a connection, by the table in docs/CLIENTS.md: `out` is the answer where one is told, and
-/// empty elsewhere. The connection has the name that the value gives it; it is known whether its client gave the
+/// What becomes of a value of a connection, by the table in docs/CLIENTS.md, where the Sentinel has this roster: `out` is
+/// the answer where one is told, and empty elsewhere. The connection has the name that the value gives it; it is known whether its client gave the
 /// password, and which clients of its port are to be closed; all else that is known of it stays. One value has at most
 /// one answer, and one that the Sentinel's rules answer, be it by a command or by the fault of a word, is left to them,
 /// once the client gave the password that is wanted. An array without items has no answer: it is `Said`, and `out` is
@@ -330,15 +348,16 @@ pub fn courtesy_of(
     alloc: Global,
     asker: &mut ClientInfo,
     value: &Value,
+    roster: &Roster,
     out: &mut OutText,
 ) -> Result<Courtesy, NoMemory>
-    ensures kind { IfOk result (λ kind. kind ≡ kind_of (courtesy asker.old (view value.now))) }
-    ensures text { OnOk result (out.new ≡ text_of (courtesy asker.old (view value.now))) }
+    ensures kind { IfOk result (λ kind. kind ≡ kind_of (courtesy roster.now asker.old (view value.now))) }
+    ensures text { OnOk result (out.new ≡ text_of (courtesy roster.now asker.old (view value.now))) }
     ensures asker { OnOk result (asker.new ≡ asker_after asker.old (view value.now)) }
 {
     out.clear();
     if asks_nothing(value) {
         return Ok(Courtesy::Said);
     }
-    reply_to(alloc, asker, value, out)
+    reply_to(alloc, roster, asker, value, out)
 }

@@ -1,23 +1,22 @@
 //! INFO.
 
-ghost use Rattle.std.specs.Prelude.{◌≡◌, ◌++◌, [], OnOk, length, take, bytes_eq, codes, decimal};
+ghost use Rattle.std.specs.Prelude.{◌≡◌, ◌++◌, [], OnOk, codes, decimal};
 ghost use Rattle.resp2.specs.Framing.Frame as frames;
-ghost use Rattle.resp2.specs.Framing.Frame.{view, frames_view, spelling, count, line_end};
-ghost use Rattle.client_commands.specs.Courtesies.{words_of};
-ghost use Rattle.client_commands.specs.ClientLines.{labelled};
-ghost use Rattle.client_commands.specs.Infos.{asks_for, is_among, is_told, field, status, sentinels, line, count_line, line_front, line_place, line_counts, master_line, master_lines, rows_of, server_front, server_section, clients_front, clients_section, stats_front, stats_section, cpu_front, time_line, cpu_section, tilt_lines, no_scripts, sentinel_title, sentinel_section, where_told, gap, section_name, section_text, with_section, port_sections, info_text, info};
+ghost use Rattle.resp2.specs.Framing.Frame.{view, spelling, line_end};
+ghost use Rattle.client_commands.specs.Courtesies.{text_of, info_answer};
+ghost use Rattle.client_commands.specs.Sections.{asks_for, is_among, is_told, line, count_line, server_front, server_section, clients_front, clients_section, stats_front, stats_section, cpu_front, time_line, cpu_section, gap, section_name, section_text, with_section, port_sections};
+ghost use Rattle.client_commands.specs.Infos.{info_text, info};
 
-use crate::clients::add_number;
+use crate::client_info::ClientInfo;
 use crate::courtesies::words_of;
 use crate::hellos::after_first;
-use crate::listing::{add_counted, add_labelled};
 use crate::port_facts::Figures;
 use crate::refusals::is_called;
 use ballot_law::{NoMemory, Text};
 use itoa::Buffer;
-use resp2::{OutText, Value, push_bulk};
+use resp2::{OutText, Value, push_bulk, word_of};
 use std::alloc::Global;
-use tokens::{number_of, run_id_text};
+use tokens::run_id_text;
 
 /// Whether the word asks for the section, or for all.
 fn asks_for(section: &[u8], word: &[u8]) -> bool
@@ -50,52 +49,8 @@ fn is_told(section: &[u8], words: &[Text]) -> bool
     words.is_empty() || is_among(section, words)
 }
 
-/// The value after the field with this name.
-fn field<'a>(name: &[u8], words: &'a [Text]) -> &'a [u8]
-    ensures { result.now ≡ field name.now words.now }
-{
-    let mut rest = words;
-    while let [key, value, more @ ..] = rest {
-        if key.as_slice() == name {
-            return value.as_slice();
-        }
-        rest = more;
-    }
-    &[]
-}
-
-/// The first bytes of the text are these.
-fn begins_with(text: &[u8], front: &[u8]) -> bool
-    ensures { result ≡ bytes_eq (take (length front.now) text.now) front.now }
-{
-    text.starts_with(front)
-}
-
-/// What a master's flags say of it.
-fn status(flags: &[u8]) -> &'static [u8]
-    ensures { result.now ≡ status flags.now }
-{
-    if begins_with(flags, b"s_down,o_down") || begins_with(flags, b"o_down") {
-        return b"odown";
-    }
-    if begins_with(flags, b"s_down") {
-        return b"sdown";
-    }
-    b"ok"
-}
-
-/// How many Sentinels watch a master that `others` others watch.
-fn sentinels(others: &[u8]) -> u64
-    ensures { result ≡ sentinels others.now }
-{
-    match number_of(others, 0, 4_294_967_295) {
-        Some(number) => number + 1,
-        None => 1,
-    }
-}
-
 /// Adds a label, its text and the end of the line.
-#[tactic(auto, unfolding(crate::specs::Infos::line))]
+#[tactic(auto, unfolding(crate::specs::Sections::line))]
 fn add_line(out: &mut OutText, label: &[u8], text: &[u8]) -> Result<(), NoMemory>
     ensures { OnOk result (out.new ≡ out.old ++ line label.now text.now) }
 {
@@ -112,90 +67,8 @@ fn add_count_line(out: &mut OutText, label: &[u8], number: u64) -> Result<(), No
     add_line(out, label, buffer.format(number).as_bytes())
 }
 
-/// Adds how the line of a master begins.
-#[tactic(auto, unfolding(crate::specs::Infos::line_front))]
-fn add_front(out: &mut OutText, n: u64, words: &[Text]) -> Result<(), NoMemory>
-    ensures { OnOk result (out.new ≡ out.old ++ line_front n words.now) }
-{
-    add_counted(out, b"master", n)?;
-    add_labelled(out, b":name=", field(b"name", words))?;
-    add_labelled(out, b",status=", status(field(b"flags", words)))
-}
-
-/// Adds where a master is.
-#[tactic(auto, unfolding(crate::specs::Infos::line_place))]
-fn add_place(out: &mut OutText, words: &[Text]) -> Result<(), NoMemory>
-    ensures { OnOk result (out.new ≡ out.old ++ line_place words.now) }
-{
-    add_labelled(out, b",address=", field(b"ip", words))?;
-    add_labelled(out, b":", field(b"port", words))
-}
-
-/// Adds how many replicas a master has, and how many Sentinels watch it.
-#[tactic(auto, unfolding(crate::specs::Infos::line_counts))]
-fn add_counts(out: &mut OutText, words: &[Text]) -> Result<(), NoMemory>
-    ensures { OnOk result (out.new ≡ out.old ++ line_counts words.now) }
-{
-    add_labelled(out, b",slaves=", field(b"num-slaves", words))?;
-    let others = field(b"num-other-sentinels", words);
-    add_counted(out, b",sentinels=", sentinels(others))?;
-    out.add(b"\r\n")
-}
-
-/// Adds the line of the master with this number, by the words that SENTINEL MASTER shows of it.
-fn add_master(out: &mut OutText, n: u64, words: &[Text]) -> Result<(), NoMemory>
-    ensures { OnOk result (out.new ≡ out.old ++ master_line n words.now) }
-{
-    add_front(out, n, words)?;
-    add_place(out, words)?;
-    add_counts(out, words)
-}
-
-/// Adds the lines of masters.
-fn add_masters(alloc: Global, out: &mut OutText, rows: &[Value]) -> Result<(), NoMemory>
-    ensures { OnOk result (out.new ≡ out.old ++ master_lines 0 (frames_view rows.now)) }
-{
-    let mut n: u64 = 0;
-    let mut rest = rows;
-    while let [row, more @ ..] = rest {
-        let words = words_of(alloc, row)?;
-        add_master(out, n, words.as_slice())?;
-        n += 1;
-        rest = more;
-    }
-    Ok(())
-}
-
-/// The items of an array.
-fn rows_of(value: &Value) -> &[Value]
-    ensures { frames_view result.now ≡ rows_of (view value.now) }
-{
-    match value {
-        Value::Items(items) => items.as_slice(),
-        _ => &[],
-    }
-}
-
-/// Adds how the section of a Sentinel begins.
-#[tactic(auto, unfolding(crate::specs::Infos::sentinel_title))]
-fn add_title(out: &mut OutText) -> Result<(), NoMemory>
-    ensures { OnOk result (out.new ≡ out.old ++ sentinel_title) }
-{
-    out.add(b"# Sentinel\r\nsentinel_masters:")
-}
-
-/// Adds that no scripts are run.
-#[tactic(auto, unfolding(crate::specs::Infos::no_scripts))]
-fn add_no_scripts(out: &mut OutText) -> Result<(), NoMemory>
-    ensures { OnOk result (out.new ≡ out.old ++ no_scripts) }
-{
-    out.add(
-        b"sentinel_running_scripts:0\r\nsentinel_scripts_queue_length:0\r\nsentinel_simulate_failure_flags:0\r\n",
-    )
-}
-
 /// Adds how the section of a server begins.
-#[tactic(auto, unfolding(crate::specs::Infos::server_front))]
+#[tactic(auto, unfolding(crate::specs::Sections::server_front))]
 fn add_server_front(out: &mut OutText) -> Result<(), NoMemory>
     ensures { OnOk result (out.new ≡ out.old ++ server_front) }
 {
@@ -215,7 +88,7 @@ fn add_server(out: &mut OutText, figures: &Figures) -> Result<(), NoMemory>
 }
 
 /// Adds how the section of clients begins.
-#[tactic(auto, unfolding(crate::specs::Infos::clients_front))]
+#[tactic(auto, unfolding(crate::specs::Sections::clients_front))]
 fn add_clients_front(out: &mut OutText) -> Result<(), NoMemory>
     ensures { OnOk result (out.new ≡ out.old ++ clients_front) }
 {
@@ -233,7 +106,7 @@ fn add_clients(out: &mut OutText, figures: &Figures) -> Result<(), NoMemory>
 }
 
 /// Adds how the section of counts begins.
-#[tactic(auto, unfolding(crate::specs::Infos::stats_front))]
+#[tactic(auto, unfolding(crate::specs::Sections::stats_front))]
 fn add_stats_front(out: &mut OutText) -> Result<(), NoMemory>
     ensures { OnOk result (out.new ≡ out.old ++ stats_front) }
 {
@@ -251,7 +124,7 @@ fn add_stats(out: &mut OutText, figures: &Figures) -> Result<(), NoMemory>
 }
 
 /// Adds how the section of the processor begins.
-#[tactic(auto, unfolding(crate::specs::Infos::cpu_front))]
+#[tactic(auto, unfolding(crate::specs::Sections::cpu_front))]
 fn add_cpu_front(out: &mut OutText) -> Result<(), NoMemory>
     ensures { OnOk result (out.new ≡ out.old ++ cpu_front) }
 {
@@ -267,7 +140,7 @@ fn add_decimal(out: &mut OutText, number: u64) -> Result<(), NoMemory>
 }
 
 /// Adds a label and hundredths of a second, as seconds with six places.
-#[tactic(auto, unfolding(crate::specs::Infos::time_line))]
+#[tactic(auto, unfolding(crate::specs::Sections::time_line))]
 fn add_time_line(out: &mut OutText, label: &[u8], hundredths: u64) -> Result<(), NoMemory>
     ensures { OnOk result (out.new ≡ out.old ++ time_line label.now hundredths) }
 {
@@ -286,55 +159,6 @@ fn add_cpu(out: &mut OutText, figures: &Figures) -> Result<(), NoMemory>
     add_cpu_front(out)?;
     add_time_line(out, b"used_cpu_sys:", figures.system_time)?;
     add_time_line(out, b"used_cpu_user:", figures.user_time)
-}
-
-/// Adds since how many seconds it is in TILT, -1 where it isn't.
-fn add_tilt(out: &mut OutText, tilt: Option<u64>) -> Result<(), NoMemory>
-    ensures { OnOk result (out.new ≡ out.old ++ tilt_lines tilt) }
-{
-    match tilt {
-        Some(millis) => {
-            add_count_line(out, b"sentinel_tilt:", 1)?;
-            add_count_line(out, b"sentinel_tilt_since_seconds:", millis / 1_000)
-        }
-        None => {
-            add_count_line(out, b"sentinel_tilt:", 0)?;
-            add_line(out, b"sentinel_tilt_since_seconds:", b"-1")
-        }
-    }
-}
-
-/// Adds how many masters there are, and the end of that line.
-fn add_count(out: &mut OutText, rows: &[Value]) -> Result<(), NoMemory>
-    ensures { OnOk result (out.new ≡ out.old ++ (decimal (count (frames_view rows.now)) ++ line_end)) }
-{
-    add_number(out, rows.len() as u64)
-}
-
-/// Adds the section of a Sentinel.
-fn add_sentinel(
-    alloc: Global,
-    out: &mut OutText,
-    figures: &Figures,
-    rows: &[Value],
-) -> Result<(), NoMemory>
-    ensures { OnOk result (out.new ≡ out.old ++ sentinel_section figures.now (frames_view rows.now)) }
-{
-    add_title(out)?;
-    add_count(out, rows)?;
-    add_tilt(out, figures.tilt)?;
-    add_no_scripts(out)?;
-    add_masters(alloc, out, rows)
-}
-
-/// Adds a text where that is so.
-pub(crate) fn add_where(out: &mut OutText, is_so: bool, text: &[u8]) -> Result<(), NoMemory>
-    ensures { OnOk result (out.new ≡ out.old ++ where_told is_so text.now) }
-{
-    if is_so {
-        return out.add(text);
-    }
-    Ok(())
 }
 
 /// Adds the empty line between two sections, where there is one before.
@@ -409,24 +233,30 @@ fn add_port_sections(out: &mut OutText, words: &[Text], figures: &Figures) -> Re
     add_section(out, Section::Cpu, words, figures)
 }
 
-/// Adds the sections that the words ask for, where none is there yet.
-#[tactic(auto, unfolding(crate::specs::Infos::info_text))]
-fn add_sections(
-    alloc: Global,
-    out: &mut OutText,
-    words: &[Text],
-    figures: &Figures,
-    masters: &Value,
-) -> Result<(), NoMemory>
-    requires { out.old ≡ [] }
-    ensures { OnOk result (out.new ≡ info_text words.now figures.now (view masters.now)) }
+/// Adds a section that is this text, where that is so.
+fn add_text(out: &mut OutText, is_so: bool, section: &[u8]) -> Result<(), NoMemory>
+    ensures { OnOk result (out.new ≡ with_section out.old is_so section.now) }
 {
-    add_port_sections(out, words, figures)?;
-    if !is_told(b"sentinel", words) {
+    if !is_so {
         return Ok(());
     }
     add_gap(out)?;
-    add_sentinel(alloc, out, figures, rows_of(masters))
+    out.add(section)
+}
+
+/// Adds the sections that the words ask for, where none is there yet.
+#[tactic(auto, unfolding(crate::specs::Infos::info_text))]
+fn add_sections(
+    out: &mut OutText,
+    words: &[Text],
+    figures: &Figures,
+    section: &[u8],
+) -> Result<(), NoMemory>
+    requires { out.old ≡ [] }
+    ensures { OnOk result (out.new ≡ info_text words.now figures.now section.now) }
+{
+    add_port_sections(out, words, figures)?;
+    add_text(out, asks_sentinel(words), section)
 }
 
 /// The answer is the sections that the words ask for.
@@ -434,31 +264,70 @@ fn say_sections(
     alloc: Global,
     words: &[Text],
     figures: &Figures,
-    masters: &Value,
+    section: &[u8],
     out: &mut OutText,
 ) -> Result<(), NoMemory>
-    ensures { OnOk result (out.new ≡ spelling (frames.bulk (info_text words.now figures.now (view masters.now)))) }
+    ensures { OnOk result (out.new ≡ spelling (frames.bulk (info_text words.now figures.now section.now))) }
 {
     let mut text = OutText::new(alloc);
-    add_sections(alloc, &mut text, words, figures, masters)?;
+    add_sections(&mut text, words, figures, section)?;
     out.clear();
     push_bulk(out, text.as_slice())
 }
 
-/// Has `out` hold the answer to INFO, whose value this is, where its port has these figures and the Sentinel answers
-/// SENTINEL MASTERS with `masters`: docs/CLIENTS.md has its sections. Sections that a Sentinel here doesn't have are
-/// told as none.
+/// Has `out` hold the answer to INFO, whose value this is, where its port has these figures and the Sentinel has this
+/// section: docs/CLIENTS.md has the sections. Sections that a Sentinel here doesn't have are told as none. A `section`
+/// that is no bulk string has no text.
 ///
 /// NoMemory: memory was refused; what `out` then holds isn't told.
 pub fn info(
     alloc: Global,
     value: &Value,
     figures: &Figures,
-    masters: &Value,
+    section: &Value,
     out: &mut OutText,
 ) -> Result<(), NoMemory>
-    ensures { OnOk result (out.new ≡ spelling (info figures.now (view value.now) (view masters.now))) }
+    ensures { OnOk result (out.new ≡ spelling (info figures.now (view value.now) (view section.now))) }
 {
     let words = words_of(alloc, value)?;
-    say_sections(alloc, after_first(words.as_slice()), figures, masters, out)
+    let words = after_first(words.as_slice());
+    say_sections(alloc, words, figures, word_of(section), out)
+}
+
+/// Whether the words of INFO ask for the section of the Sentinel.
+pub(crate) fn asks_sentinel(words: &[Text]) -> bool
+    ensures { result ≡ is_told (codes "sentinel") words.now }
+{
+    is_told(b"sentinel", words)
+}
+
+/// The answer is the sections of the port that the words ask for.
+fn say_port(
+    alloc: Global,
+    words: &[Text],
+    figures: &Figures,
+    out: &mut OutText,
+) -> Result<(), NoMemory>
+    ensures { OnOk result (out.new ≡ spelling (frames.bulk (port_sections words.now figures.now))) }
+{
+    let mut text = OutText::new(alloc);
+    add_port_sections(&mut text, words, figures)?;
+    out.clear();
+    push_bulk(out, text.as_slice())
+}
+
+/// The answer to INFO with these words, where none asks for the section of the Sentinel; else none.
+pub(crate) fn answer_info(
+    alloc: Global,
+    asker: &ClientInfo,
+    words: &[Text],
+    out: &mut OutText,
+) -> Result<(), NoMemory>
+    ensures { OnOk result (out.new ≡ text_of (info_answer asker.now words.now)) }
+{
+    if asks_sentinel(words) {
+        out.clear();
+        return Ok(());
+    }
+    say_port(alloc, words, asker.port().figures(), out)
 }

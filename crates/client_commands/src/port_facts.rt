@@ -33,8 +33,6 @@ pub struct Figures {
     pub user_time: u64,
     /// For how long the system worked for it, in hundredths of a second.
     pub system_time: u64,
-    /// For how many milliseconds it is in TILT; none where it isn't.
-    pub tilt: Option<u64>,
 }
 
 impl Figures {
@@ -54,7 +52,6 @@ impl Figures {
             commands: 0,
             user_time: 0,
             system_time: 0,
-            tilt: None,
         }
     }
 }

@@ -1,6 +1,6 @@
 //! What is answered to the subcommands of SENTINEL that a Sentinel's rules don't know.
 
-ghost use Rattle.std.specs.Prelude.{◌≡◌, ◌*◌, ◌++◌, ◌∷◌, [], OnOk, IfOk, bytes_eq, length, map, decimal};
+ghost use Rattle.std.specs.Prelude.{◌≡◌, ◌≤◌, ◌*◌, ◌++◌, ◌∷◌, [], OnOk, IfOk, bytes_eq, length, map, decimal};
 ghost use Rattle.std.specs.List.{list_any};
 ghost use Rattle.ballot_law.specs.Words.{lower};
 ghost use Rattle.resp2.specs.Framing.Frame as frames;
@@ -8,13 +8,13 @@ ghost use Rattle.resp2.specs.Framing.Frame.{spelling, spellings, frames_of, line
 ghost use Rattle.client_commands.specs.Subcommands.{not_at_runtime, no_trials};
 ghost use Rattle.client_commands.specs.Courtesies.{uncached, named_masters, cached, setting, settings, config_get, config, sentinel_told};
 
-use crate::client_info::{ClientInfo, MonitoredMaster};
+use crate::client_info::ClientInfo;
 use crate::clients::{add_number, say_none};
 use crate::helps::sentinel_help;
 use crate::port_facts::Figures;
 use crate::refusals::{is_called, say};
 use crate::subcommands::Sub;
-use ballot_law::{NoMemory, Text};
+use ballot_law::{NoMemory, Roster, Text, Watched};
 use itoa::Buffer;
 use pubsub::is_match;
 use resp2::{OutText, push_bulk};
@@ -57,19 +57,19 @@ fn add_uncached(out: &mut OutText, nodes: usize) -> Result<(), NoMemory>
 }
 
 /// The bytes of what `add_cached` adds.
-fn add_cached_bytes(out: &mut OutText, master: &MonitoredMaster) -> Result<(), NoMemory>
+fn add_cached_bytes(out: &mut OutText, master: &Watched) -> Result<(), NoMemory>
     ensures { OnOk result (out.new ≡ out.old ++ (spelling (frames.bulk master.now.name)
-        ++ (42 ∷ ((decimal master.now.nodes ++ line_end) ++ spellings (uncached master.now.nodes))))) }
+        ++ (42 ∷ ((decimal (length master.now.nodes) ++ line_end) ++ spellings (uncached (length master.now.nodes)))))) }
 {
-    push_bulk(out, master.name())?;
+    push_bulk(out, master.name.as_slice())?;
     out.add(b"*")?;
-    add_number(out, master.nodes() as u64)?;
-    add_uncached(out, master.nodes())
+    add_number(out, master.nodes().len() as u64)?;
+    add_uncached(out, master.nodes().len())
 }
 
 /// Adds the name of a master, and that nothing is kept of the INFO of its data nodes.
-fn add_cached(out: &mut OutText, master: &MonitoredMaster) -> Result<(), NoMemory>
-    ensures { OnOk result (out.new ≡ out.old ++ (spelling (frames.bulk master.now.name) ++ spelling (frames.items (uncached master.now.nodes)))) }
+fn add_cached(out: &mut OutText, master: &Watched) -> Result<(), NoMemory>
+    ensures { OnOk result (out.new ≡ out.old ++ (spelling (frames.bulk master.now.name) ++ spelling (frames.items (uncached (length master.now.nodes))))) }
 {
     add_cached_bytes(out, master)
 }
@@ -88,64 +88,52 @@ fn is_named(name: &[u8], words: &[Text]) -> bool
     false
 }
 
-/// The masters that a word names.
-fn named_masters(
-    alloc: Global,
-    words: &[Text],
-    masters: &[MonitoredMaster],
-) -> Result<Vec<MonitoredMaster>, NoMemory>
-    ensures { IfOk result (λ named. named.items ≡ named_masters words.now masters.now) }
+/// How many masters a word names.
+fn count_named(words: &[Text], masters: &[Watched]) -> usize
+    ensures value { result ≡ length (named_masters words.now masters.now) }
+    ensures within { result ≤ length masters.now }
 {
-    let mut named = Vec::new(alloc);
+    let mut count = 0;
     let mut rest = masters;
     while let [master, more @ ..] = rest {
-        if is_named(master.name(), words) {
-            named.push(master.copy())?;
+        if is_named(master.name.as_slice(), words) {
+            count += 1;
         }
         rest = more;
     }
-    Ok(named)
+    count
 }
 
-/// Adds what is told of each of these masters.
-fn add_each_cached(out: &mut OutText, masters: &[MonitoredMaster]) -> Result<(), NoMemory>
-    ensures { OnOk result (out.new ≡ out.old ++ spellings (cached masters.now)) }
+/// Adds what is told of each master that a word names.
+fn add_each_cached(out: &mut OutText, words: &[Text], masters: &[Watched]) -> Result<(), NoMemory>
+    ensures { OnOk result (out.new ≡ out.old ++ spellings (cached (named_masters words.now masters.now))) }
 {
     let mut rest = masters;
     while let [master, more @ ..] = rest {
-        add_cached(out, master)?;
+        if is_named(master.name.as_slice(), words) {
+            add_cached(out, master)?;
+        }
         rest = more;
     }
     Ok(())
 }
 
-/// The bytes of what `say_cached` tells.
-fn say_cached_bytes(out: &mut OutText, masters: &[MonitoredMaster]) -> Result<(), NoMemory>
-    ensures { OnOk result (out.new ≡ 42 ∷ ((decimal (length masters.now * 2) ++ line_end) ++ spellings (cached masters.now))) }
+/// The bytes of what `info_cache` tells.
+fn say_cached(out: &mut OutText, words: &[Text], masters: &[Watched]) -> Result<(), NoMemory>
+    ensures { OnOk result (out.new ≡ 42 ∷ ((decimal (length (named_masters words.now masters.now) * 2) ++ line_end)
+        ++ spellings (cached (named_masters words.now masters.now)))) }
 {
     say(out, b"*")?;
-    add_number(out, masters.len() as u64 * 2)?;
-    add_each_cached(out, masters)
+    add_number(out, count_named(words, masters) as u64 * 2)?;
+    add_each_cached(out, words, masters)
 }
 
-/// The answer is what is kept of the INFO of these masters' data nodes.
-fn say_cached(out: &mut OutText, masters: &[MonitoredMaster]) -> Result<(), NoMemory>
-    ensures { OnOk result (out.new ≡ spelling (frames.items (cached masters.now))) }
+/// The answer to SENTINEL INFO-CACHE with these words, where these are the masters: what is kept of the INFO of the
+/// data nodes of those that a word names.
+fn info_cache(words: &[Text], masters: &[Watched], out: &mut OutText) -> Result<(), NoMemory>
+    ensures { OnOk result (out.new ≡ spelling (frames.items (cached (named_masters words.now masters.now)))) }
 {
-    say_cached_bytes(out, masters)
-}
-
-/// The answer to SENTINEL INFO-CACHE with these words.
-fn info_cache(
-    alloc: Global,
-    asker: &ClientInfo,
-    words: &[Text],
-    out: &mut OutText,
-) -> Result<(), NoMemory>
-    ensures { OnOk result (out.new ≡ spelling (frames.items (cached (named_masters words.now asker.now.masters)))) }
-{
-    let named = named_masters(alloc, words, asker.masters())?;
-    say_cached(out, named.as_slice())
+    say_cached(out, words, masters)
 }
 
 /// Adds a setting and its value where the pattern matches its name.
@@ -290,16 +278,17 @@ fn config(
 pub(crate) fn sentinel_told(
     alloc: Global,
     asker: &ClientInfo,
+    roster: &Roster,
     sub: Sub,
     words: &[Text],
     out: &mut OutText,
 ) -> Result<(), NoMemory>
-    ensures { OnOk result (out.new ≡ spelling (sentinel_told asker.now sub words.now)) }
+    ensures { OnOk result (out.new ≡ spelling (sentinel_told roster.now asker.now sub words.now)) }
 {
     match sub {
         Sub::Help => sentinel_help(out),
         Sub::PendingScripts => say_none(out),
-        Sub::InfoCache => info_cache(alloc, asker, words, out),
+        Sub::InfoCache => info_cache(words, roster.masters(), out),
         Sub::Config => config(alloc, asker, words, out),
         Sub::SetOption => refuse_at_runtime(b"SET", out),
         Sub::Monitor => refuse_at_runtime(b"MONITOR", out),

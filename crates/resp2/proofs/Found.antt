@@ -209,3 +209,9 @@ asks_fewer (reading bytes) after (Ok None) h = tt
 asks_fewer (reading bytes) after (Err f) h = tt
 asks_fewer (ended f) after (Ok given) h = absurd (let d = h.1.0 in cc)
 asks_fewer (ended f) after (Err g) h = tt
+
+-- fewer bytes stand behind a command
+pub found_shorter : (bytes rest : List ℕ) (asked : Result Command CommandFault) → Found bytes asked rest → length rest < length bytes
+found_shorter bytes rest asked h =
+    let text : bytes ≡ spelling h.0 ++ rest = (read_is_spelled bytes h.0 rest h.1).0 in
+    omega (arith, ap length text, length-append (spelling h.0) rest, spelled_some h.0)

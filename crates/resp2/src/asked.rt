@@ -208,7 +208,7 @@ fn question_at(bytes: &[u8]) -> Option<(Result<Command, CommandFault>, &[u8])>
 
 /// The command at the front and what stands behind it, where it is one of those that come nearly always. The number of
 /// its words, which is its second byte, tells which it may be.
-fn asked_at(bytes: &[u8]) -> Option<(Result<Command, CommandFault>, &[u8])>
+pub(crate) fn asked_at(bytes: &[u8]) -> Option<(Result<Command, CommandFault>, &[u8])>
     ensures found { IfSome result (λ x. Found bytes.now x.0 x.1.now) }
     ensures within { IfSome result (λ x. IfOk x.0 IsWithin) }
     ensures common { IfSome result (λ x. IfOk x.0 IsCommon) }

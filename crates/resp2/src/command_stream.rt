@@ -1,10 +1,10 @@
 //! Reads commands from a stream that comes in pieces.
-ghost use Rattle.std.specs.Prelude.{◌≡◌, ◌<◌, ◌≤◌, Ok, Some, None, OnOk, IfOk, IfSome};
-ghost use Rattle.resp2.specs.Asked.{Asks, IsCommon};
+ghost use Rattle.std.specs.Prelude.{◌≡◌, ◌<◌, ◌≤◌, Ok, Some, None, length, OnOk, IfOk, IfSome};
+ghost use Rattle.resp2.specs.Asked.{Asks, Found, IsCommon};
 ghost use Rattle.ballot_law.specs.Limits.{IsWithin};
 ghost use Rattle.resp2.specs.Framing.Stream.{held_size};
 
-use crate::asked::asked_of;
+use crate::asked::{asked_at, asked_of};
 use crate::command::{CommandFault, command_of};
 use crate::framing::{FrameFault, Frames};
 use ballot_law::Command;
@@ -55,6 +55,20 @@ pub fn next_common(frames: &mut Frames) -> Option<Command>
             frames.skip(count);
             Some(command)
         }
+        _ => None,
+    }
+}
+
+/// The command with which these bytes begin, and what stands behind it, where it is one that `next_common` takes. `None`
+/// tells nothing of the bytes. No memory is taken.
+pub fn common_in(bytes: &[u8]) -> Option<(Command, &[u8])>
+    ensures found { IfSome result (λ x. Found bytes.now (Ok x.0) x.1.now) }
+    ensures within { IfSome result (λ x. IsWithin x.0) }
+    ensures common { IfSome result (λ x. IsCommon x.0) }
+    ensures shorter { IfSome result (λ x. length x.1.now < length bytes.now) }
+{
+    match asked_at(bytes) {
+        Some((Ok(command), rest)) => Some((command, rest)),
         _ => None,
     }
 }

@@ -14,7 +14,7 @@ mod laws;
 mod words;
 
 pub use command::{CommandFault, command_of, redis_command_of};
-pub use command_stream::{next_command, next_common};
+pub use command_stream::{common_in, next_command, next_common};
 pub use framing::{
     ByteSink, FrameFault, Frames, OutText, Unread, Value, law_fault_and_value_stay, law_faults,
     law_no_value_behind_a_fault, law_one_spelling, law_one_split, law_reading_is_spelling,

@@ -3,25 +3,15 @@
 ghost use Rattle.resp2.specs.Framing.Frame.{view, HasLines};
 
 use crate::commands::{array, tell_command, value_of};
-use crate::given::number_32;
+use crate::rosters::watching_mymaster;
 use crate::told::{Told, Unplayed};
-use ballot_law::{Addr, Name, RunId, Text};
+use ballot_law::{Addr, RunId, Text};
 use client_commands::{
-    ClientEntry, ClientInfo, CommandReader, Courtesy, Figures, MonitoredMaster, PortFacts,
-    Protocol, courtesy_of, info,
+    ClientEntry, ClientInfo, CommandReader, Courtesy, Figures, PortFacts, Protocol, common_in,
+    courtesy_of, info,
 };
 use resp2::{FrameFault, OutText, Value, write_value};
 use std::alloc::Global;
-
-/// The master `mymaster`.
-fn mymaster(alloc: Global) -> Result<Vec<MonitoredMaster>, Unplayed> {
-    let mut masters = Vec::new(alloc);
-    let Some(name) = Name::from_slice(b"mymaster") else {
-        return Err(Unplayed::WrongWords);
-    };
-    masters.push(MonitoredMaster { name, nodes: 3 })?;
-    Ok(masters)
-}
 
 /// A client of the port, with this number, from this port of 127.0.0.1, at this place.
 fn client(
@@ -64,7 +54,6 @@ fn port(alloc: Global) -> Result<PortFacts, Unplayed> {
         commands: 99,
         user_time: 1_207,
         system_time: 30,
-        tilt: None,
     };
     let mut port = PortFacts::of(alloc, figures);
     port.clients
@@ -79,14 +68,13 @@ fn port(alloc: Global) -> Result<PortFacts, Unplayed> {
     Ok(port)
 }
 
-/// A connection with number 21 and this name, at one of three Sentinels that watch `mymaster`.
+/// A connection with number 21 and this name.
 fn asker(alloc: Global, name: &[u8], listens: bool) -> Result<ClientInfo, Unplayed> {
     Ok(ClientInfo {
         id: 21,
         name: Text::from_slice(alloc, name)?,
         protocol: Protocol::Two,
         listens,
-        masters: mymaster(alloc)?,
         password: None,
         admitted: false,
         current: None,
@@ -107,11 +95,11 @@ fn tell_kind(kind: Courtesy, text: &[u8], told: &mut Told) -> Result<(), Unplaye
     match kind {
         Courtesy::Left => told.word("left"),
         Courtesy::Said => told.bytes(text),
-        Courtesy::AsksMasters => told.word("asks_masters"),
+        Courtesy::AsksInfo => told.word("asks_info"),
     }
 }
 
-/// Tells what becomes of a command of a connection, whether its client gave the password then that is wanted, and the
+/// Tells what becomes of a command of a connection to a Sentinel that watches `mymaster`, whether its client gave the password then that is wanted, and the
 /// name that it has.
 fn tell(
     alloc: Global,
@@ -120,7 +108,8 @@ fn tell(
     told: &mut Told,
 ) -> Result<(), Unplayed> {
     let mut out = OutText::new(alloc);
-    let kind = courtesy_of(alloc, asker, &array(alloc, words)?, &mut out)?;
+    let (value, roster) = (array(alloc, words)?, watching_mymaster(alloc)?);
+    let kind = courtesy_of(alloc, asker, &value, &roster, &mut out)?;
     tell_kind(kind, out.as_slice(), told)?;
     if asker.password.is_some() && asker.admitted {
         told.word("admitted")?;
@@ -139,10 +128,10 @@ fn tell(
     told.bytes(asker.name.as_slice())
 }
 
-/// Tells the answer to INFO with these words, where the answer to SENTINEL MASTERS is `masters`.
+/// Tells the answer to INFO with these words, where the Sentinel answers with this section.
 fn tell_info(
     alloc: Global,
-    masters: &[u8],
+    section: &[u8],
     words: &[Vec<u8>],
     told: &mut Told,
 ) -> Result<(), Unplayed> {
@@ -152,41 +141,24 @@ fn tell_info(
         alloc,
         &array(alloc, words)?,
         &known.figures,
-        &value_of(alloc, masters)?,
+        &value_of(alloc, section)?,
         &mut out,
     )?;
-    told.bytes(out.as_slice())
-}
-
-/// Tells the answer to INFO SENTINEL at a Sentinel that watches no master and is in TILT for so many milliseconds.
-fn tell_tilt(alloc: Global, millis: u32, told: &mut Told) -> Result<(), Unplayed> {
-    let mut out = OutText::new(alloc);
-    let known = port(alloc)?;
-    let mut figures = known.figures;
-    figures.tilt = Some(u64::from(millis));
-    let mut words = Vec::new(alloc);
-    words.push(Vec::from_slice(alloc, b"INFO")?)?;
-    words.push(Vec::from_slice(alloc, b"sentinel")?)?;
-    let (value, none) = (array(alloc, words.as_slice())?, array(alloc, &[])?);
-    info(alloc, &value, &figures, &none, &mut out)?;
     told.bytes(out.as_slice())
 }
 
 /// Tells what each of some commands of one connection is answered, each command as a line.
 fn tell_each(alloc: Global, lines: &[Vec<u8>], told: &mut Told) -> Result<(), Unplayed> {
     let mut asker = asker(alloc, b"", false)?;
+    let roster = watching_mymaster(alloc)?;
     let mut out = OutText::new(alloc);
     for line in lines {
         let mut words = Vec::new(alloc);
         for word in line.as_slice().split(|byte| *byte == b' ') {
             words.push(Vec::from_slice(alloc, word)?)?;
         }
-        courtesy_of(
-            alloc,
-            &mut asker,
-            &array(alloc, words.as_slice())?,
-            &mut out,
-        )?;
+        let value = array(alloc, words.as_slice())?;
+        courtesy_of(alloc, &mut asker, &value, &roster, &mut out)?;
         told.bytes(out.as_slice())?;
     }
     Ok(())
@@ -201,8 +173,11 @@ fn tell_value(alloc: Global, value: &Value, told: &mut Told) -> Result<(), Unpla
     told.bytes(out.as_slice())
 }
 
+/// The section of a Sentinel without masters, cut short.
+const NO_MASTERS: &[u8] = b"# Sentinel\r\nsentinel_masters:0\r\n";
+
 /// Tells what becomes of a value, one that is left by its bytes; of INFO also its answer, where the Sentinel answers
-/// with no masters.
+/// with the section above.
 fn tell_one(
     alloc: Global,
     attendant: &mut CommandReader,
@@ -211,13 +186,14 @@ fn tell_one(
 ) -> Result<(), Unplayed>
     requires { HasLines (view value.now) }
 {
-    let kind = attendant.attend_to(value)?;
+    let kind = attendant.attend_to(value, &watching_mymaster(alloc)?)?;
     tell_kind(kind, attendant.text(), told)?;
     match kind {
         Courtesy::Said => Ok(()),
         Courtesy::Left => tell_value(alloc, value, told),
-        Courtesy::AsksMasters => {
-            attendant.inform(value, &array(alloc, &[])?)?;
+        Courtesy::AsksInfo => {
+            let section = Value::Bulk(Text::from_slice(alloc, NO_MASTERS)?);
+            attendant.inform(value, &section)?;
             told.bytes(attendant.text())
         }
     }
@@ -274,6 +250,16 @@ fn tell_common(
     Ok(())
 }
 
+/// Tells the commands with which a piece begins that isn't held, and the bytes behind them.
+fn tell_unheld(piece: &[u8], told: &mut Told) -> Result<(), Unplayed> {
+    let mut left = piece;
+    while let Some((command, rest)) = common_in(left) {
+        tell_command(&command, told)?;
+        left = rest;
+    }
+    told.bytes(left)
+}
+
 /// Tells what becomes of the values of a stream that comes in these pieces.
 fn tell_stream(
     alloc: Global,
@@ -324,9 +310,9 @@ pub(crate) fn play(
         ("ask_locked", words) => tell(alloc, &mut locked(alloc, false)?, words, told),
         ("ask_admitted", words) => tell(alloc, &mut locked(alloc, true)?, words, told),
         ("ask_as", [name, words @ ..]) => tell(alloc, &mut asker(alloc, name, false)?, words, told),
-        ("info", [masters, words @ ..]) => tell_info(alloc, masters, words, told),
-        ("tilt", [millis]) => tell_tilt(alloc, number_32(millis)?, told),
+        ("info", [section, words @ ..]) => tell_info(alloc, section, words, told),
         ("ask_each", lines) => tell_each(alloc, lines, told),
+        ("take_unheld", [piece]) => tell_unheld(piece, told),
         ("take_common", pieces) => tell_common(alloc, &mut attendant(alloc)?, pieces, told),
         ("attend", pieces) => tell_stream(alloc, &mut attendant(alloc)?, pieces, told),
         ("attend_listening", pieces) => tell_stream(alloc, &mut listening(alloc)?, pieces, told),

@@ -40,6 +40,19 @@ fn masters(alloc: Global, quorum: u32, ports: &[Vec<u8>]) -> Result<Vec<Watched>
     Ok(masters)
 }
 
+/// The roster of three Sentinels that watch `mymaster`, which has three nodes.
+pub(crate) fn watching_mymaster(alloc: Global) -> Result<Roster, Unplayed> {
+    let mut ports = Vec::new(alloc);
+    for port in ["6379", "6380", "6381"] {
+        ports.push(Vec::from_slice(alloc, port.as_bytes())?)?;
+    }
+    let masters = masters(alloc, 2, ports.as_slice())?;
+    match Roster::new(alloc, members(alloc, 3)?, masters) {
+        Ok(roster) => Ok(roster),
+        Err(_) => Err(Unplayed::NoMemory),
+    }
+}
+
 /// Tells how many votes elect a Sentinel by a copy of this roster.
 fn tell_need(alloc: Global, roster: &Roster, told: &mut Told) -> Result<(), Unplayed> {
     let copy = roster.copy(alloc)?;

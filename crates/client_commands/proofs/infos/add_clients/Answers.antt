@@ -1,5 +1,5 @@
 use Rattle.std.specs.Prelude.{codes}
-use Rattle.client_commands.specs.Infos.{count_line, clients_front}
+use Rattle.client_commands.specs.Sections.{count_line, clients_front}
 use Rattle.client_commands.proofs.Parts.{four_parts}
 use Rattle.client_commands.proofs.infos.add_clients.Goals as goal
 

@@ -1,5 +1,5 @@
 use Rattle.std.specs.Prelude.{codes}
-use Rattle.client_commands.specs.Infos.{time_line, cpu_front}
+use Rattle.client_commands.specs.Sections.{time_line, cpu_front}
 use Rattle.client_commands.proofs.Parts.{three_parts}
 use Rattle.client_commands.proofs.infos.add_cpu.Goals as goal
 

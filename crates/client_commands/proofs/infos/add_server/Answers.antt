@@ -1,6 +1,6 @@
 use Rattle.std.proofs.Common.{◌∙◌, ◌++◌, ◌/◌, ℕ, List, ap}
 use Rattle.std.specs.Prelude.{codes}
-use Rattle.client_commands.specs.Infos.{line, count_line, server_front}
+use Rattle.client_commands.specs.Sections.{line, count_line, server_front}
 use Rattle.ballot_law.specs.Words.{id_text}
 use Rattle.client_commands.proofs.Parts.{six_parts}
 use Rattle.client_commands.proofs.infos.add_server.Goals as goal

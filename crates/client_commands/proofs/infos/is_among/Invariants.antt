@@ -1,5 +1,5 @@
 use Rattle.std.proofs.Common.{◌≡◌, length}
-use Rattle.client_commands.specs.Infos.{is_among}
+use Rattle.client_commands.specs.Sections.{is_among}
 use Rattle.client_commands.proofs.infos.is_among.Given as goal
 
 abbrev pub invariant-loop-rest : goal.invariant-loop-rest

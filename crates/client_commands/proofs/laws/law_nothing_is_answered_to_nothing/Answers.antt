@@ -3,4 +3,4 @@ use Rattle.client_commands.proofs.Silence.{unasked_is}
 use Rattle.client_commands.proofs.laws.law_nothing_is_answered_to_nothing.Goals as goal
 
 pub returns : goal.returns
-returns c = λ asker value. (silent_asks_nothing asker value, unasked_is asker value)
+returns c = λ roster asker value. (silent_asks_nothing roster asker value, unasked_is roster asker value)
