@@ -24,7 +24,7 @@ pub struct Shown {
 }
 
 /// The configurations that an answer shows, in the order of the answer.
-#[derive(Clone, Drop)]
+#[derive(Drop)]
 pub struct ShownList {
     shown: Vec<Shown>,
 }

@@ -35,4 +35,6 @@ pub enum Command {
     FlushConfig,
     /// `SUBSCRIBE +switch-master`: the connection asks to be told of each new address of a master.
     Subscribe,
+    /// The section of INFO that tells of the Sentinel. No words of a port become it: a session asks it by itself.
+    Info,
 }

@@ -7,7 +7,7 @@ use crate::replies::PingReply;
 use crate::texts::Text;
 
 /// What happens at a node. An event carries its content, so a node needs no list of messages to take it.
-#[derive(Clone, Drop)]
+#[derive(Drop)]
 pub enum Event {
     /// The timer of a master, with a random number.
     Tick {
@@ -63,7 +63,7 @@ pub enum Event {
 }
 
 /// An event at a reading of the node's clock, in milliseconds. A reading above 2^62 counts as 2^62.
-#[derive(Clone, Drop)]
+#[derive(Drop)]
 pub struct Input {
     pub now: u64,
     pub event: Event,

@@ -25,7 +25,7 @@ pub struct Heir {
 }
 
 /// What a message says.
-#[derive(Clone, Drop)]
+#[derive(Drop)]
 pub enum Body {
     /// Whether the master is down, which isn't named on the wire but by its address, and with a candidate a request for
     /// a vote.
@@ -77,7 +77,7 @@ pub enum Body {
 }
 
 /// A message with its sender and its target.
-#[derive(Clone, Drop)]
+#[derive(Drop)]
 pub struct Message {
     pub sender: NodeName,
     pub target: NodeName,

@@ -13,7 +13,7 @@ pub enum KeptText {
 
 /// A step of the whole group. One that doesn't apply, as the release of a node that has stored nothing, changes
 /// nothing.
-#[derive(Clone, Drop)]
+#[derive(Drop)]
 pub enum Step {
     /// The node takes an input that no message brings.
     Take { node: NodeName, input: Input },

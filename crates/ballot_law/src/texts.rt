@@ -12,7 +12,7 @@ use std::marker::Model;
 
 /// A text of any length, as a bulk string of RESP2, the text of a message or the text of a file. Contracts see the list
 /// of its bytes.
-#[derive(Clone, Drop)]
+#[derive(Drop)]
 pub struct Text {
     bytes: Vec<u8>,
 }

@@ -11,7 +11,7 @@ use Rattle.pubsub.proofs.OwnCommands.{own_is_other, own_is_said}
 use Rattle.pubsub.proofs.Sounding.{untold}
 use Rattle.port_sessions.specs.Listening.{note_text}
 use Rattle.ballot_law.specs.declared.commands.Command.{Command}
-use Rattle.ballot_law.specs.declared.commands.Command.TheVariants.{Ping, IsMasterDownByAddr, GetMasterAddrByName, Masters, Master, Replicas, Sentinels, MyId, CkQuorum, Failover, FlushConfig, Subscribe}
+use Rattle.ballot_law.specs.declared.commands.Command.TheVariants.{Ping, IsMasterDownByAddr, GetMasterAddrByName, Masters, Master, Replicas, Sentinels, MyId, CkQuorum, Failover, FlushConfig, Subscribe, Info}
 use Rattle.client_commands.specs.Courtesies.{is_stranger, ClientInfo, Answer, left, said, asks_masters, silent, asks_nothing, courtesy, kind_of}
 use Rattle.client_commands.specs.declared.courtesies.Courtesy.TheVariants.{Said}
 use Rattle.client_commands.proofs.Strangers.{strangers_are_answered}
@@ -48,6 +48,7 @@ hears_all (Failover name) = refl
 hears_all (CkQuorum name) = refl
 hears_all FlushConfig = refl
 hears_all Subscribe = refl
+hears_all Info = refl
 
 pub hears_near : HearsNear
 hears_near current epoch addr candidate h =
@@ -86,6 +87,7 @@ common_differs MyId h e = absurd h
 common_differs (Failover name) h e = absurd h
 common_differs (CkQuorum name) h e = absurd h
 common_differs FlushConfig h e = absurd h
+common_differs Info h e = absurd h
 
 common_is_plain : (command : Command) → IsCommon command → shape_of_command command ≡ Plain
 common_is_plain Ping h = refl
@@ -100,6 +102,7 @@ common_is_plain (CkQuorum name) h = refl
 common_is_plain (Failover name) h = refl
 common_is_plain FlushConfig h = refl
 common_is_plain Subscribe h = refl
+common_is_plain Info h = refl
 
 -- such a command of a connection that listens to nothing, whose client gave the password or of whom none is wanted
 pub common_turn : (protocol : Protocol) (asker : ClientInfo) (l : Listening) (value : Frame) (command : Command) → IsCommon command → asker.protocol ≡ protocol

@@ -3,7 +3,7 @@ use Rattle.std.proofs.Common.{◌≡◌, ◌≢◌, ◌⊎◌, ℕ, Bool, true, 
 use Rattle.std.specs.Option.{is_some}
 use Rattle.std.specs.Prelude.{is_err}
 use Rattle.ballot_law.specs.declared.commands.Command.{Command}
-use Rattle.ballot_law.specs.declared.commands.Command.TheVariants.{Ping, IsMasterDownByAddr, GetMasterAddrByName, Masters, Master, Replicas, Sentinels, MyId, CkQuorum, Failover, FlushConfig, Subscribe}
+use Rattle.ballot_law.specs.declared.commands.Command.TheVariants.{Ping, IsMasterDownByAddr, GetMasterAddrByName, Masters, Master, Replicas, Sentinels, MyId, CkQuorum, Failover, FlushConfig, Subscribe, Info}
 use Rattle.pubsub.specs.declared.answers.Turn.TheVariants.{Other as Untouched}
 use Rattle.pubsub.specs.Answering.{Answer as ChannelAnswer, other, said as confirmed, answer as channel_answer, turn_of, listening_after}
 use Rattle.pubsub.specs.Listening.{Listening}
@@ -66,6 +66,7 @@ module _ (start : World) (now : ℕ) where
     at None (Ok (Failover name)) differs r = r.1
     at None (Ok (CkQuorum name)) differs r = r.1
     at None (Ok FlushConfig) differs r = r.1
+    at None (Ok Info) differs r = r.1
 
   -- what isn't SUBSCRIBE is heard as no SUBSCRIBE
   pub heard_otherwise : (current : Option ℕ) (asked : Result Command CommandFault) → asked ≢ Ok Subscribe → heard_as current asked ≢ Ok Subscribe
@@ -82,6 +83,7 @@ module _ (start : World) (now : ℕ) where
   heard_otherwise current (Ok (Failover name)) differs e = let no : ⊥ = cc in no
   heard_otherwise current (Ok (CkQuorum name)) differs e = let no : ⊥ = cc in no
   heard_otherwise current (Ok FlushConfig) differs e = let no : ⊥ = cc in no
+  heard_otherwise current (Ok Info) differs e = let no : ⊥ = cc in no
 
   pub answers_alike : (asker : ClientInfo) (answer : Answer) (p : Party) (value : Frame) (bytes : List ℕ) (q : Party) → redis_command_of value ≢ Ok Subscribe → Answers start now asker answer p value bytes q
       → q.listens ≡ p.listens

@@ -54,6 +54,7 @@ fn shape_of_command(command: &Command) -> Shape
         Command::Failover(_) => Shape::Plain,
         Command::FlushConfig => Shape::Plain,
         Command::Subscribe => Shape::Plain,
+        Command::Info => Shape::Plain,
     }
 }
 

@@ -75,4 +75,11 @@ impl Tilt {
     {
         self.entered.is_some()
     }
+
+    /// The reading of the last jump, while TILT holds after the last turn.
+    pub fn since(&self) -> Option<u64>
+        ensures { result ≡ self.now.entered }
+    {
+        self.entered
+    }
 }

@@ -1,11 +1,13 @@
 -- What a text with room holds once something was added to it as to any sink.
-use Rattle.std.proofs.Common.{◌≡◌, ℕ, ◌+◌, ◌≤◌, ◌<◌, List, ◌++◌, length, take, ap, sym, ◌∙◌, arith, length-append, Result, Ok, Err}
+use Rattle.std.proofs.Common.{◌≡◌, ◌↔◌, ℕ, ◌+◌, true, true≢false, refl, ◌-◌, ◌≤◌, ◌<◌, min, List, ◌++◌, length, take, ap, sym, ◌∙◌, arith, length-append, Result, Ok, Err}
+use Rattle.std.specs.Prelude.{IsOk, OnOk}
 use Rattle.std.proofs.lemmas.List.{take-append-le, take_all, take-take, length-take-le}
 use Rattle.resp2.specs.Framing.Writing.{Begins, Adds}
 use Rattle.bounded_list.specs.BoundedLists as lists
-use Rattle.bounded_list.proofs.Bounded.{bounded_all}
+use Rattle.bounded_list.proofs.Bounded.{bounded_all, added_fits, two_adds}
 use Rattle.ballot_law.specs.declared.messages.TheConstants.{ANSWER_MAX}
-use Rattle.port_answers.specs.Room.{bounded}
+use Rattle.port_answers.specs.declared.info_lines.TheConstants.{SECTION_MAX}
+use Rattle.port_answers.specs.Room.{bounded, within_section}
 
 -- what has room was added, and what has none was cut
 pub filled : {X E : Type 0} (answer : Result X E) (before after bytes : List ℕ) → Adds answer before after bytes (length after ≡ ANSWER_MAX) → bounded after ≡ after
@@ -28,3 +30,20 @@ pushed_part before after piece short long e =
     ap (take (length before)) e ∙ take-take (length before) ANSWER_MAX (before ++ piece) short ∙ take-append-le (length before) before piece (omega arith) ∙
     take_all (length before) before (omega arith) in
     (front, ap (λ (n : ℕ). take n (before ++ piece)) size ∙ sym e, size)
+
+-- what has room of a piece
+on_ok : {X E : Type 0} (answer : Result X E) (P : Type 0) → IsOk answer → OnOk answer P → P
+on_ok (Ok x) P is h = h
+on_ok (Err e) P is h = absurd (true≢false (sym is))
+
+pub extended : {X E : Type 0} (limit : ℕ) (old piece part new : List ℕ) (k : ℕ) (answer : Result X E) → length old ≤ limit
+    → k ≡ min (length piece) (limit - length old) → part ≡ take k piece → length part ≡ k
+    → (IsOk answer ↔ (length old + length part ≤ limit)) → OnOk answer (new ≡ old ++ part) → new ≡ lists.bounded limit (old ++ piece)
+extended limit old piece part new k answer short e f size may h =
+    let room : length old + length part ≤ limit = omega (arith, e, size) in
+    added_fits limit old piece part new k true short e f refl (on_ok answer (new ≡ old ++ part) (may.1 room) h)
+
+-- two parts of a section, one behind the other
+pub section_more : (old mid new first second : List ℕ) → mid ≡ within_section (old ++ first) → new ≡ within_section (mid ++ second)
+    → new ≡ within_section (old ++ (first ++ second))
+section_more old mid new first second e f = two_adds SECTION_MAX old mid new first second e f

@@ -10,10 +10,13 @@ use Rattle.resp2.specs.declared.command.CommandFault.TheVariants.{NotACommand, U
 use Rattle.port_answers.specs.declared.rows.SentinelRow.{SentinelRow}
 use Rattle.ballot_law.specs.declared.messages.TheConstants.{ANSWER_MAX}
 use Rattle.port_answers.specs.Answers.{master_frame, replica_frame, sentinel_frame, masters_frame, replicas_frame, sentinels_frame, no_such_master, ok_line, in_progress, in_tilt, no_good_replica, quorum_reached, no_quorum, id_frame, subscribed, command_fault, protocol_error}
-use Rattle.port_answers.specs.Limits.{IsPlace, IsMasterRow, IsReplicaRow, Fits, MasterFits, MastersFit, ReplicasFit, SentinelsFit, LinesFit, IsSentinelRow, RedisMasterFits, RedisMastersFit, RedisReplicasFit, RedisSentinelsFit}
+use Rattle.port_answers.specs.Limits.{IsPlace, IsMasterRow, IsReplicaRow, Fits, MasterFits, MastersFit, ReplicasFit, SentinelsFit, SectionsFit, LinesFit, IsSentinelRow, RedisMasterFits, RedisMastersFit, RedisReplicasFit, RedisSentinelsFit}
 use Rattle.bounded_list.proofs.Bounded.{bounded_all}
 use Rattle.port_answers.proofs.Subscribing.{subscribed_bytes}
 use Rattle.port_answers.specs.RedisRows.{redis_master_frame, redis_masters_frame, redis_replica_frame, redis_replicas_frame, redis_sentinel_frame, redis_sentinels_frame, redis_quorum_reached, redis_no_quorum, shortfall}
+use Rattle.port_answers.specs.declared.info_lines.TheConstants.{SECTION_MAX}
+use Rattle.port_answers.specs.InfoLines.{sentinel_section, section_frame}
+use Rattle.port_answers.proofs.InfoSizes.{section_size, long_bulk_size}
 use Rattle.port_answers.proofs.RedisSizes.{redis_master_size, redis_replica_size, redis_sentinel_size}
 use Rattle.port_answers.proofs.Sizes.{master_size, replica_size, sentinel_size, rows_array, counted_size, bulk_size}
 
@@ -37,6 +40,15 @@ pub sentinels_fit : SentinelsFit
 sentinels_fit rows few all =
     fits (sentinels_frame rows) (length rows * 223 + 23)
     (rows_array sentinel_frame (λ (row : SentinelRow). IsPlace row.addr) 223 sentinel_size rows (omega arith) all) (omega arith)
+
+pub sections_fit : SectionsFit
+sections_fit tilt masters span few all =
+    let short : length (sentinel_section tilt masters) ≤ SECTION_MAX = omega (arith, section_size tilt masters span (omega arith) all) in
+    record {
+      section = bounded_all SECTION_MAX (sentinel_section tilt masters) short;
+      frame =
+          fits (section_frame tilt masters) (length (sentinel_section tilt masters) + 25) (long_bulk_size (sentinel_section tilt masters) (omega arith)) (omega arith);
+    }
 
 pub redis_master_fits : RedisMasterFits
 redis_master_fits row h = fits (redis_master_frame row) 1110 (redis_master_size row h) (omega arith)

@@ -3,6 +3,7 @@ pub mod RowLemmas
 pub mod RedisRowLemmas
 pub mod Sizes
 pub mod RedisSizes
+pub mod InfoSizes
 pub mod Subscribing
 pub mod Fitting
 pub mod Filling

@@ -1,4 +1,5 @@
 pub mod Room
 pub mod Answers
+pub mod InfoLines
 pub mod RedisRows
 pub mod Limits

@@ -14,7 +14,9 @@ use Rattle.port_answers.specs.declared.rows.MasterRow.{MasterRow}
 use Rattle.port_answers.specs.declared.rows.ReplicaRow.{ReplicaRow}
 use Rattle.port_answers.specs.declared.rows.SentinelRow.{SentinelRow}
 use Rattle.ballot_law.specs.declared.messages.TheConstants.{ANSWER_MAX}
-use Rattle.port_answers.specs.Room.{bounded}
+use Rattle.port_answers.specs.declared.info_lines.MasterLine.{MasterLine}
+use Rattle.port_answers.specs.InfoLines.{sentinel_section, section_frame}
+use Rattle.port_answers.specs.Room.{bounded, within_section}
 use Rattle.port_answers.specs.Answers.{master_frame, masters_frame, replicas_frame, sentinels_frame, no_such_master, ok_line, in_progress, in_tilt, no_good_replica, quorum_reached, no_quorum, id_frame, subscribed, command_fault, protocol_error}
 use Rattle.port_answers.specs.RedisRows.{redis_master_frame, redis_masters_frame, redis_replicas_frame, redis_sentinels_frame, redis_quorum_reached, redis_no_quorum}
 
@@ -77,6 +79,18 @@ pub record IsSentinelRow (row : SentinelRow) : Type 0 where
   pub leader_epoch : row.leader_epoch < 2 ^ 64
   pub contact : IsContactRow row.contact
 
+-- a name of at most 64 bytes, and numbers of 64 bits
+pub record IsMasterLine (line : MasterLine) : Type 0 where
+  pub name : length line.name ≤ NAME_MAX
+  pub addr : IsPlace line.addr
+  pub replicas : line.replicas < 2 ^ 64
+  pub sentinels : line.sentinels < 2 ^ 64
+
+-- a number of 64 bits where there is one
+abbrev pub IsSpanIfAny : Option ℕ → Type 0
+IsSpanIfAny None = ⊤
+IsSpanIfAny (Some millis) = millis < 2 ^ 64
+
 -- the spelling is no longer than the room, which so holds all of it
 pub record Fits (frame : Frame) : Type 0 where
   pub short : length (spelling frame) ≤ ANSWER_MAX
@@ -97,6 +111,16 @@ ReplicasFit = (rows : List ReplicaRow) → length rows ≤ NODES_MAX → AllByRe
 -- up to 64 Sentinels
 abbrev pub SentinelsFit : Type 0
 SentinelsFit = (rows : List SentinelRow) → length rows ≤ SENTINELS_MAX → AllByRecursion (λ (row : SentinelRow). IsPlace row.addr) rows → Fits (sentinels_frame rows)
+
+-- the section of INFO that tells of up to 16 masters
+pub record SectionFits (tilt : Option ℕ) (masters : List MasterLine) : Type 0 where
+  pub section : within_section (sentinel_section tilt masters) ≡ sentinel_section tilt masters
+  pub frame : Fits (section_frame tilt masters)
+
+abbrev pub SectionsFit : Type 0
+SectionsFit =
+    (tilt : Option ℕ) (masters : List MasterLine) → IsSpanIfAny tilt → length masters ≤ MASTERS_MAX → AllByRecursion IsMasterLine masters →
+    SectionFits tilt masters
 
 -- the same in redis-sentinel's words
 abbrev pub RedisMasterFits : Type 0

@@ -7,6 +7,7 @@
 
 mod answer_text;
 mod fields;
+mod info_lines;
 mod known_rows;
 mod laws;
 mod line_answers;
@@ -15,6 +16,7 @@ mod row_answers;
 mod rows;
 
 pub use answer_text::AnswerText;
+pub use info_lines::{InfoSection, MasterLine};
 pub use known_rows::{ContactRow, FailoverStage, LinkRow, SaidRow};
 pub use laws::law_answers_fit;
 pub use rows::{MasterRow, ReplicaRow, SentinelRow};

@@ -5,7 +5,7 @@ use Rattle.std.specs.Prelude.{OnOk, OnErr, IfErr}
 use Rattle.std.specs.Option.{is_some}
 use Rattle.ballot_law.specs.declared.cards.Shown.{Shown}
 use Rattle.ballot_law.specs.declared.commands.Command.{Command}
-use Rattle.ballot_law.specs.declared.commands.Command.TheVariants.{Ping, IsMasterDownByAddr, GetMasterAddrByName, Masters, Master, Replicas, Sentinels, MyId, CkQuorum, Failover, FlushConfig, Subscribe}
+use Rattle.ballot_law.specs.declared.commands.Command.TheVariants.{Ping, IsMasterDownByAddr, GetMasterAddrByName, Masters, Master, Replicas, Sentinels, MyId, CkQuorum, Failover, FlushConfig, Subscribe, Info}
 use Rattle.ballot_law.specs.declared.messages.Body.{Body}
 use Rattle.ballot_law.specs.declared.messages.Body.TheVariants.{AddressAnswer}
 use Rattle.ballot_law.specs.declared.messages.Output.{Output}
@@ -83,6 +83,7 @@ module _ (start : World) (now : ℕ) where
   by_turn v (CkQuorum name) bytes w t h = h
   by_turn v FlushConfig bytes w t h = h
   by_turn v Subscribe bytes w t h = h
+  by_turn v Info bytes w t h = h
 
   pub turn_written : {X : Type 0} (v : View) (listens after : Option ℕ) (command : Command) (shown : List Output) (put : Result X ServeFault) (unsent given : List ℕ) (w : View)
       → listens ≡ None → after ≡ listens_after (Ok command) w → takes_turn command ≡ true → (h : ShowsAnswer start now v command shown w)

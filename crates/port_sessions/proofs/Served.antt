@@ -6,7 +6,7 @@ use Rattle.ballot_law.specs.declared.cards.Card.{Card}
 use Rattle.ballot_law.specs.declared.cards.Kept.{Kept}
 use Rattle.ballot_law.specs.declared.cards.Shown.{Shown}
 use Rattle.ballot_law.specs.declared.commands.Command.{Command}
-use Rattle.ballot_law.specs.declared.commands.Command.TheVariants.{Ping, IsMasterDownByAddr, GetMasterAddrByName, Masters, Master, Replicas, Sentinels, MyId, CkQuorum, Failover, FlushConfig, Subscribe}
+use Rattle.ballot_law.specs.declared.commands.Command.TheVariants.{Ping, IsMasterDownByAddr, GetMasterAddrByName, Masters, Master, Replicas, Sentinels, MyId, CkQuorum, Failover, FlushConfig, Subscribe, Info}
 use Rattle.ballot_law.specs.declared.events.Input.{Input}
 use Rattle.ballot_law.specs.declared.events.Event.TheVariants.{Command as Commanded}
 use Rattle.ballot_law.specs.declared.messages.Body.TheVariants.{AddressAnswer}
@@ -86,6 +86,7 @@ served_by start now v w (Ok (Failover name)) bytes h = turn_served start now v w
 served_by start now v w (Ok (CkQuorum name)) bytes h = turn_served start now v w (CkQuorum name) bytes h
 served_by start now v w (Ok FlushConfig) bytes h = turn_served start now v w FlushConfig bytes h
 served_by start now v w (Ok Subscribe) bytes h = turn_served start now v w Subscribe bytes h
+served_by start now v w (Ok Info) bytes h = turn_served start now v w Info bytes h
 
 pub answers_are_served : AnswersAreServed
 answers_are_served start now v w value bytes h = served_by start now v w (command_of value) bytes h

@@ -2,7 +2,7 @@
 use Rattle.std.proofs.Common.{◌≡◌, ℕ, Bool, true, false, Option, Some, None, refl, true≢false}
 use Rattle.std.specs.Prelude.{if◌then◌else◌, ◌||◌}
 use Rattle.ballot_law.specs.declared.addresses.Addr.{Addr}
-use Rattle.ballot_law.specs.declared.commands.Command.TheVariants.{Ping, IsMasterDownByAddr, GetMasterAddrByName, Masters, Master, Replicas, Sentinels, MyId, CkQuorum, Failover, FlushConfig, Subscribe}
+use Rattle.ballot_law.specs.declared.commands.Command.TheVariants.{Ping, IsMasterDownByAddr, GetMasterAddrByName, Masters, Master, Replicas, Sentinels, MyId, CkQuorum, Failover, FlushConfig, Subscribe, Info}
 use Rattle.sentinel_rules.specs.Answers.{Answered, asked_of, asked_to_switch, has_heir}
 use Rattle.sentinel_rules.specs.Plans.{Plan}
 use Rattle.sentinel_rules.specs.Profiles.{by_profile}
@@ -43,3 +43,4 @@ others_store_nothing plan now (CkQuorum name) core h = refl
 others_store_nothing plan now (Failover name) core h = by_either plan.profile _ _ core refl (switch_keeps plan now _ core)
 others_store_nothing plan now FlushConfig core h = absurd (true≢false h)
 others_store_nothing plan now Subscribe core h = refl
+others_store_nothing plan now Info core h = refl

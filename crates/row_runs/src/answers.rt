@@ -7,7 +7,8 @@ use crate::given::{address, id, is_down, is_lost, maybe_id, number, number_32};
 use crate::told::{Told, Unplayed};
 use ballot_law::{ANSWER_MAX, DataRole, Name};
 use port_answers::{
-    AnswerText, ContactRow, FailoverStage, LinkRow, MasterRow, ReplicaRow, SaidRow, SentinelRow,
+    AnswerText, ContactRow, FailoverStage, InfoSection, LinkRow, MasterLine, MasterRow, ReplicaRow,
+    SaidRow, SentinelRow,
 };
 use std::alloc::Global;
 
@@ -246,6 +247,47 @@ fn add_sentinels(answers: &mut AnswerText, words: &[Vec<u8>]) -> Result<(), Unpl
     Ok(())
 }
 
+/// What INFO says of a master that these six words are: its name, its address, its status, how many replicas it has and
+/// how many Sentinels watch it.
+fn master_line(words: &[Vec<u8>]) -> Result<MasterLine, Unplayed> {
+    let [name, ip, port, status, replicas, sentinels] = words else {
+        return Err(Unplayed::WrongWords);
+    };
+    let Some(name) = Name::from_slice(name) else {
+        return Err(Unplayed::WrongWords);
+    };
+    let (down, odown) = match status.as_slice() {
+        b"ok" => (false, false),
+        b"sdown" => (true, false),
+        b"odown" => (true, true),
+        _ => return Err(Unplayed::WrongWords),
+    };
+    Ok(MasterLine {
+        name,
+        addr: address(ip, port)?,
+        down,
+        odown,
+        replicas: number(replicas)?,
+        sentinels: number(sentinels)?,
+    })
+}
+
+/// Adds the section of INFO that tells of a Sentinel, which is in TILT for so many milliseconds or, with `None`, isn't,
+/// and of masters of six words each.
+fn add_section(answers: &mut AnswerText, tilt: &[u8], words: &[Vec<u8>]) -> Result<(), Unplayed> {
+    let tilt = match tilt {
+        b"None" => None,
+        millis => Some(number(millis)?),
+    };
+    let mut section = InfoSection::new();
+    section.add_front((words.len() / 6) as u64, tilt);
+    for (n, master) in words.chunks(6).enumerate() {
+        section.add_master(n as u64, &master_line(master)?);
+    }
+    answers.add_section(&section);
+    Ok(())
+}
+
 /// Adds what a call adds with these words.
 fn add(
     alloc: Global,
@@ -264,6 +306,7 @@ fn add(
         ("add_redis_no_quorum", [usable, quorum, sentinels]) => {
             answers.add_redis_no_quorum(number(usable)?, number(quorum)?, number(sentinels)?);
         }
+        ("add_section", [tilt, words @ ..]) => add_section(answers, tilt, words)?,
         ("add_no_such_master", []) => answers.add_no_such_master(),
         ("add_ok", []) => answers.add_ok(),
         ("add_quorum_reached", [usable]) => answers.add_quorum_reached(number(usable)?),

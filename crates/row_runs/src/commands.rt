@@ -39,6 +39,7 @@ pub(crate) fn tell_command(command: &Command, told: &mut Told) -> Result<(), Unp
         Command::Failover(master) => tell_named("Failover", master, told),
         Command::FlushConfig => told.word("FlushConfig"),
         Command::Subscribe => told.word("Subscribe"),
+        Command::Info => told.word("Info"),
     }
 }
 

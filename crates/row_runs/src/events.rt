@@ -91,6 +91,10 @@ pub(crate) fn event(alloc: Global, words: &[Vec<u8>]) -> Result<Event, Unplayed>
             sender: NodeName::PortAt(0),
             command: command(alloc, words)?,
         }),
+        ("section", []) => Ok(Event::Command {
+            sender: NodeName::PortAt(0),
+            command: Command::Info,
+        }),
         ("answer", words) => answered(words),
         ("info", [of, bytes]) => Ok(Event::InfoRead {
             node: node(of)?,

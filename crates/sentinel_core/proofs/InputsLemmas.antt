@@ -4,3 +4,4 @@ pub mod Openings
 pub mod PartSteps
 pub mod Sights
 pub mod AnswerRows
+pub mod InfoTexts

@@ -8,7 +8,7 @@ use Rattle.ballot_law.specs.declared.addresses.RunId.{RunId}
 use Rattle.ballot_law.specs.declared.cards.Kept.{Kept}
 use Rattle.ballot_law.specs.declared.cards.KeptMaster.{KeptMaster}
 use Rattle.ballot_law.specs.declared.commands.Command.{Command}
-use Rattle.ballot_law.specs.declared.commands.Command.TheVariants.{Ping, IsMasterDownByAddr, GetMasterAddrByName, Masters, Master, Replicas, Sentinels, MyId, CkQuorum, FlushConfig, Subscribe, Failover}
+use Rattle.ballot_law.specs.declared.commands.Command.TheVariants.{Ping, IsMasterDownByAddr, GetMasterAddrByName, Masters, Master, Replicas, Sentinels, MyId, CkQuorum, FlushConfig, Subscribe, Info, Failover}
 use Rattle.ballot_law.specs.declared.events.Event.{Event}
 use Rattle.ballot_law.specs.declared.events.Event.TheVariants.{Tick, Command as Commanded, Answered as AnswerCame, Pinged, InfoRead, HelloRead, Disconnected, Become, Handed, Refused}
 use Rattle.ballot_law.specs.declared.messages.Body.{Body}
@@ -34,7 +34,7 @@ use Rattle.sentinel_rules.specs.States.{Core, is_tilted, is_master_down, master_
 use Rattle.sentinel_rules.specs.Parts.{Part, quiet, send, shown_of}
 use Rattle.sentinel_rules.specs.Votes.{requested}
 use Rattle.sentinel_rules.specs.News.{answered, pinged, disconnected, info_read, hello_read, refusal_heard}
-use Rattle.sentinel_rules.specs.Answers.{Answered, master_with_card, asked_at, asked_of, master_row, replica_rows, sentinel_rows, all_masters, quorum_frame, reply, named, about, address_of, commanded, unchanged, has_heir, wished, asked_to_switch}
+use Rattle.sentinel_rules.specs.Answers.{Answered, master_with_card, asked_at, asked_of, master_row, replica_rows, sentinel_rows, all_masters, quorum_frame, info_frame, reply, named, about, address_of, commanded, unchanged, has_heir, wished, asked_to_switch}
 use Rattle.sentinel_rules.specs.Takes.{Next, next_at, shown_after, answer_to, cleared}
 use Rattle.sentinel_rules.specs.Ticks.{tick}
 use Rattle.sentinel_rules.specs.Facts.{IsSoundPlan, IsSound}
@@ -111,6 +111,7 @@ commanded_steps plan event now (Failover name) core s =
     (stay_steps plan event 2 core) (asked_switch_steps plan event now (named plan name) core s (λ j e. named_inside plan name j e))
 commanded_steps plan event now FlushConfig core s = stay_steps plan event 2 core
 commanded_steps plan event now Subscribe core s = stay_steps plan event 2 core
+commanded_steps plan event now Info core s = stay_steps plan event 2 core
 
 -- Answers
 
@@ -201,6 +202,7 @@ commanded_right plan parts target now (Failover name) core s t is =
     (bare_right plan core parts target (command_fault UnknownCommand)) (asked_switch_right plan parts target now (named plan name) core)
 commanded_right plan parts target now FlushConfig core s t is = reply_right plan core parts target [] ok_line is
 commanded_right plan parts target now Subscribe core s t is = reply_right plan core parts target [] subscribed is
+commanded_right plan parts target now Info core s t is = reply_right plan core parts target (all_masters plan) (info_frame plan core now) is
 
 -- One input
 

@@ -104,6 +104,7 @@ answer_within plan now (command.Failover name) core =
     (asked_switch_within plan now (named plan name) core)
 answer_within plan now command.FlushConfig core = tt
 answer_within plan now command.Subscribe core = tt
+answer_within plan now command.Info core = tt
 
 -- One input
 

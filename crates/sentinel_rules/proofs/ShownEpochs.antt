@@ -133,6 +133,7 @@ answer_shows plan now (command.Failover name) core h =
     (asked_switch_shows plan now (named plan name) core)
 answer_shows plan now command.FlushConfig core h = tt
 answer_shows plan now command.Subscribe core h = tt
+answer_shows plan now command.Info core h = shown_within plan core (all_masters plan) h
 
 -- One input
 

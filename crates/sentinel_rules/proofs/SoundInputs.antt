@@ -5,7 +5,7 @@ use Rattle.ballot_law.specs.declared.addresses.Addr.{Addr}
 use Rattle.ballot_law.specs.declared.addresses.RunId.{RunId}
 use Rattle.ballot_law.specs.declared.cards.TheConstants.{MAX_EPOCH}
 use Rattle.ballot_law.specs.declared.commands.Command.{Command}
-use Rattle.ballot_law.specs.declared.commands.Command.TheVariants.{Ping, IsMasterDownByAddr, GetMasterAddrByName, Masters, Master, Replicas, Sentinels, MyId, CkQuorum, FlushConfig, Subscribe, Failover}
+use Rattle.ballot_law.specs.declared.commands.Command.TheVariants.{Ping, IsMasterDownByAddr, GetMasterAddrByName, Masters, Master, Replicas, Sentinels, MyId, CkQuorum, FlushConfig, Subscribe, Info, Failover}
 use Rattle.ballot_law.specs.declared.events.Event.{Event}
 use Rattle.ballot_law.specs.declared.events.Event.TheVariants.{Tick, Command as Commanded, Answered as AnswerCame, Pinged, InfoRead, HelloRead, Disconnected, Become, Handed, Refused}
 use Rattle.ballot_law.specs.Clocks.{clock}
@@ -87,6 +87,7 @@ commanded_sound plan now (Failover name) core h s =
     (switched_sound plan now (named plan name) core s)
 commanded_sound plan now FlushConfig core h s = s
 commanded_sound plan now Subscribe core h s = s
+commanded_sound plan now Info core h s = s
 
 cleared_sound : (plan : Plan) (core : Core) → IsSound plan core → IsSound plan (cleared core)
 cleared_sound plan core s = sound_alike plan core (cleared core) refl refl refl s

@@ -8,7 +8,7 @@ use Rattle.ballot_law.specs.Words.{hex}
 use Rattle.failover_states.specs.Replicas.{told, is_due, is_next}
 use Rattle.sentinel_rules.specs.States.{is_unrefused}
 use Rattle.sentinel_rules.specs.Ticks.{hands_over}
-use Rattle.sentinel_rules.specs.Worked.{OneVoteAnEpoch, QuestionsRaiseNothing, NothingOfNobody, VoteAfterARestart, ShortAnswers, AFailover, FailoverGoesOn, ATickInFull, HelloInBytes, VotesOfAnotherEpoch, VoteThatWasNotStored, NoEpochIsLeft, AdoptionEndsAFailover, OnlyNewerIsAdopted, NothingIsJudgedInTilt, AVoteDelaysTheOwnCampaign, ReplicasOneByOne, AFormerMasterFollows, AReplicaOfAnotherFollows, ShownInAFailover, ASwitchForgetsTheStart, ALostCandidateHoldsNobodyBack, APlannedSwitch, ASwitchAtTheNodes}
+use Rattle.sentinel_rules.specs.Worked.{OneVoteAnEpoch, QuestionsRaiseNothing, NothingOfNobody, VoteAfterARestart, ShortAnswers, InfoInBytes, AFailover, FailoverGoesOn, ATickInFull, HelloInBytes, VotesOfAnotherEpoch, VoteThatWasNotStored, NoEpochIsLeft, AdoptionEndsAFailover, OnlyNewerIsAdopted, NothingIsJudgedInTilt, AVoteDelaysTheOwnCampaign, ReplicasOneByOne, AFormerMasterFollows, AReplicaOfAnotherFollows, ShownInAFailover, ASwitchForgetsTheStart, ALostCandidateHoldsNobodyBack, APlannedSwitch, ASwitchAtTheNodes}
 
 -- what is unfolded to compute texts and failovers that are written out
 unfoldable pub on_literals : ⊤
@@ -30,6 +30,10 @@ vote_after_a_restart = record { held = refl; told = refl; untold = refl }
 pub short_answers : ShortAnswers
 unfolding on_literals
 short_answers = refl
+
+pub info_in_bytes : InfoInBytes
+unfolding on_literals
+info_in_bytes = refl
 
 pub a_failover : AFailover
 unfolding on_literals

@@ -6,7 +6,7 @@ use Rattle.ballot_law.specs.declared.addresses.RunId.{RunId}
 use Rattle.ballot_law.specs.declared.cards.KeptMaster.{KeptMaster}
 use Rattle.ballot_law.specs.declared.cards.Shown.{Shown}
 use Rattle.ballot_law.specs.declared.commands.Command.{Command}
-use Rattle.ballot_law.specs.declared.commands.Command.TheVariants.{Ping, IsMasterDownByAddr, GetMasterAddrByName, Masters, Master, Replicas, Sentinels, MyId, CkQuorum, Failover, FlushConfig, Subscribe}
+use Rattle.ballot_law.specs.declared.commands.Command.TheVariants.{Ping, IsMasterDownByAddr, GetMasterAddrByName, Masters, Master, Replicas, Sentinels, MyId, CkQuorum, Failover, FlushConfig, Subscribe, Info}
 use Rattle.ballot_law.specs.declared.messages.Body.{Body}
 use Rattle.ballot_law.specs.declared.messages.Body.TheVariants.{Answer, PingText, AddressAnswer, PortReply}
 use Rattle.ballot_law.specs.Ballots.{card_of}
@@ -22,6 +22,8 @@ use Rattle.replica_choice.specs.declared.candidates.Candidate.{Candidate}
 use Rattle.port_answers.specs.declared.rows.MasterRow.{MasterRow}
 use Rattle.port_answers.specs.declared.rows.ReplicaRow.{ReplicaRow}
 use Rattle.port_answers.specs.declared.rows.SentinelRow.{SentinelRow}
+use Rattle.port_answers.specs.declared.info_lines.MasterLine.{MasterLine}
+use Rattle.port_answers.specs.InfoLines.{section_frame}
 use Rattle.port_answers.specs.Answers.{no_such_master, ok_line, in_progress, in_tilt, no_good_replica, id_frame, subscribed, command_fault}
 use Rattle.sentinel_rules.specs.declared.assumed.TheConstants.{ASSUMED_INFO}
 use Rattle.sentinel_rules.specs.Plans.{Plan, roster_of, me, group_size, master_count, settings_at, nodes_of, addr_at}
@@ -157,6 +159,26 @@ quorum_frame plan core now m =
     then quorum_reached_by plan.profile usable
     else no_quorum_by plan.profile usable (master_at (roster_of plan) m).quorum (group_size plan)
 
+-- INFO
+
+-- for how many milliseconds it has been in TILT, where it is
+abbrev pub span_since : Option ℕ → (now : ℕ) → Option ℕ
+span_since None now = None
+span_since (Some since) now = Some (age since now)
+
+abbrev pub tilted_for : Core → (now : ℕ) → Option ℕ
+tilted_for core now = span_since core.clock.entered now
+
+-- as MASTERS shows it; this Sentinel watches too
+abbrev pub master_line : Plan → Core → (now m : ℕ) → MasterLine
+master_line plan core now m =
+    let row = master_row plan core now m in
+    record { name = row.name; addr = row.addr; down = row.down; odown = row.odown; replicas = row.replicas; sentinels = row.others + 1 }
+
+-- the section of INFO that tells of the Sentinel
+abbrev pub info_frame : Plan → Core → (now : ℕ) → Frame
+info_frame plan core now = section_frame (tilted_for core now) (map (master_line plan core now) (all_masters plan))
+
 -- Answers
 
 -- an answer that shows the configurations of these masters
@@ -221,3 +243,4 @@ commanded plan now (Failover name) core =
     by_profile plan.profile (unchanged core (reply core [] (command_fault UnknownCommand))) (asked_to_switch plan now (named plan name) core)
 commanded plan now FlushConfig core = unchanged core (reply core [] ok_line)
 commanded plan now Subscribe core = unchanged core (reply core [] subscribed)
+commanded plan now Info core = unchanged core (reply core (all_masters plan) (info_frame plan core now))

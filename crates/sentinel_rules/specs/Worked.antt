@@ -6,7 +6,7 @@ use Rattle.ballot_law.specs.declared.cards.Card.{Card}
 use Rattle.ballot_law.specs.declared.cards.Kept.{Kept}
 use Rattle.ballot_law.specs.declared.cards.TheConstants.{MAX_EPOCH}
 use Rattle.ballot_law.specs.declared.commands.Command.{Command}
-use Rattle.ballot_law.specs.declared.commands.Command.TheVariants.{Ping as PingCommand, IsMasterDownByAddr, GetMasterAddrByName, MyId, CkQuorum, Failover as FailoverCommand, FlushConfig}
+use Rattle.ballot_law.specs.declared.commands.Command.TheVariants.{Ping as PingCommand, IsMasterDownByAddr, GetMasterAddrByName, MyId, CkQuorum, Failover as FailoverCommand, FlushConfig, Info as InfoCommand}
 use Rattle.ballot_law.specs.declared.events.Event.{Event}
 use Rattle.ballot_law.specs.declared.events.Event.TheVariants.{Tick, Command as Commanded, Answered, Pinged, InfoRead, HelloRead, Refused}
 use Rattle.ballot_law.specs.declared.messages.Body.{Body}
@@ -296,6 +296,25 @@ ShortAnswers =
     ∷ text_answer (codes "+OK")
     ∷ answer (PingText false (codes "PONG"))
     ∷ []
+
+-- the answer to INFO, of so many bytes, where the one master has this status
+abbrev pub info_answer : (size status : List ℕ) → List Output
+info_answer size status =
+    answer (PortReply (record { master = 0; card = record { epoch = 0; addr = local 6379 } } ∷ []) (line size
+    ++ (line (codes "# Sentinel")
+    ++ (line (codes "sentinel_masters:1")
+    ++ (line (codes "sentinel_tilt:0")
+    ++ (line (codes "sentinel_tilt_since_seconds:-1")
+    ++ (line (codes "sentinel_running_scripts:0")
+    ++ (line (codes "sentinel_scripts_queue_length:0")
+    ++ (line (codes "sentinel_simulate_failure_flags:0")
+    ++ line (line (codes "master0:name=mymaster,status=" ++ (status ++ codes ",address=127.0.0.1:6379,slaves=0,sentinels=4"))))))))))))
+
+-- at the start, and once nothing was heard of the master for a minute: two Sentinels would have to find it down
+abbrev pub InfoInBytes : Type 0
+InfoInBytes =
+    outputs_of (default_plan (kept_at_epoch 0)) (command_at 0 InfoCommand ∷ command_at 60000 InfoCommand ∷ [])
+    ≡ info_answer (codes "$254") (codes "ok") ∷ info_answer (codes "$257") (codes "sdown") ∷ []
 
 -- A failover
 

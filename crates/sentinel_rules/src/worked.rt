@@ -7,6 +7,7 @@ ghost use Rattle.sentinel_rules.specs.Worked.{
   NothingOfNobody,
   VoteAfterARestart,
   ShortAnswers,
+  InfoInBytes,
   AFailover,
   FailoverGoesOn,
   ATickInFull,
@@ -39,11 +40,12 @@ pub fn law_example_votes()
     ensures a_vote_delays_the_own_campaign { AVoteDelaysTheOwnCampaign }
 {}
 
-/// The answers to a client: of an address and a name that no master has, the short ones, in bytes, and what is shown
-/// during a failover.
+/// The answers to a client: of an address and a name that no master has, the short ones and INFO's, in bytes, and what
+/// is shown during a failover.
 pub fn law_example_answers()
     ensures nothing_of_nobody { NothingOfNobody }
     ensures short_answers { ShortAnswers }
+    ensures info_in_bytes { InfoInBytes }
     ensures shown_in_a_failover { ShownInAFailover }
 {}
 

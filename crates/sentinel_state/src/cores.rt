@@ -170,6 +170,13 @@ impl Core {
         self.clock.holds()
     }
 
+    /// The reading at which the clock last jumped, while it is not to be trusted.
+    pub fn tilted_since(&self) -> Option<u64>
+        ensures { result ≡ self.now.clock.entered }
+    {
+        self.clock.since()
+    }
+
     /// A master's configuration.
     pub fn card(&self, m: u16) -> Card
         ensures { result ≡ card_of self.now.kept m }

@@ -5,7 +5,7 @@ use Rattle.std.proofs.lemmas.List.{length-map}
 use Rattle.ballot_law.specs.declared.addresses.Addr.{Addr}
 use Rattle.ballot_law.specs.declared.addresses.RunId.{RunId}
 use Rattle.ballot_law.specs.declared.commands.Command.{Command}
-use Rattle.ballot_law.specs.declared.commands.Command.TheVariants.{Ping, IsMasterDownByAddr, GetMasterAddrByName, Masters, Master, Replicas, Sentinels, MyId, CkQuorum, FlushConfig, Subscribe, Failover}
+use Rattle.ballot_law.specs.declared.commands.Command.TheVariants.{Ping, IsMasterDownByAddr, GetMasterAddrByName, Masters, Master, Replicas, Sentinels, MyId, CkQuorum, FlushConfig, Subscribe, Info, Failover}
 use Rattle.ballot_law.specs.declared.events.Event.{Event}
 use Rattle.ballot_law.specs.declared.events.Event.TheVariants.{Tick, Command as Commanded, Answered as AnswerCame, Pinged, InfoRead, HelloRead, Disconnected, Refused, Become, Handed}
 use Rattle.ballot_law.specs.declared.messages.Body.{Body}
@@ -73,6 +73,9 @@ answer_few plan now (Failover name) core p =
     either_few plan.profile core _ (asked_to_switch plan now (named plan name) core) (asked_switch_few plan now (named plan name) core)
 answer_few plan now FlushConfig core p = omega arith
 answer_few plan now Subscribe core p = omega arith
+answer_few plan now Info core p =
+    let many : length (map (shown_of core) (all_masters plan)) ≡ master_count plan = length-map (all_masters plan) (shown_of core) ∙ length-numbers_from 0 (master_count plan) in
+    omega (arith, many, p.conf.few_masters)
 
 frame_few : (plan : Plan) (core : Core) (frame : Frame) → IsFewShown (output_of plan core frame)
 frame_few plan core (PingTo target) = tt

@@ -5,7 +5,7 @@ use Rattle.ballot_law.specs.declared.addresses.Addr.{Addr}
 use Rattle.ballot_law.specs.declared.addresses.RunId.{RunId}
 use Rattle.ballot_law.specs.declared.cards.Shown.{Shown}
 use Rattle.ballot_law.specs.declared.commands.Command.{Command}
-use Rattle.ballot_law.specs.declared.commands.Command.TheVariants.{Ping, IsMasterDownByAddr, GetMasterAddrByName, Masters, Master, Replicas, Sentinels, MyId, CkQuorum, FlushConfig, Subscribe, Failover}
+use Rattle.ballot_law.specs.declared.commands.Command.TheVariants.{Ping, IsMasterDownByAddr, GetMasterAddrByName, Masters, Master, Replicas, Sentinels, MyId, CkQuorum, FlushConfig, Subscribe, Info, Failover}
 use Rattle.ballot_law.specs.declared.events.Event.{Event}
 use Rattle.ballot_law.specs.declared.events.Event.TheVariants.{Tick, Command as Commanded, Answered as AnswerCame, Pinged, InfoRead, HelloRead, Disconnected, Refused, Become, Handed}
 use Rattle.ballot_law.specs.declared.messages.Body.{Body}
@@ -96,6 +96,7 @@ answer_listed plan now (Failover name) core =
     either_listed (roster_of plan) plan.profile core _ (asked_to_switch plan now (named plan name) core) (asked_switch_listed plan now (named plan name) core)
 answer_listed plan now FlushConfig core = tt
 answer_listed plan now Subscribe core = tt
+answer_listed plan now Info core = numbers_listed (roster_of plan) core 0 (master_count plan) (omega arith)
 
 -- Frames: of these only a hello and a note advertise, and a hello shows nothing where its name is no master's
 

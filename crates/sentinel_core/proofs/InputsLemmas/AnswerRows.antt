@@ -198,7 +198,7 @@ each_told P row_of out place zero h = tt
 each_told P row_of out place (suc count) h =
     each_test P row_of out place count (out place) refl (h place (omega arith)) (each_told P row_of out (place + 1) count (λ k l. h k (omega arith)))
 
-each_from : {X : Type 0} (P : X → Type 0) (row_of : ℕ → X) (place count : ℕ) → ((k : ℕ) → k < place + count → P (row_of k)) →
+pub each_from : {X : Type 0} (P : X → Type 0) (row_of : ℕ → X) (place count : ℕ) → ((k : ℕ) → k < place + count → P (row_of k)) →
     AllByRecursion P (map row_of (numbers_from place count))
 each_from P row_of place zero h = tt
 each_from P row_of place (suc count) h = (h place (omega arith), each_from P row_of (place + 1) count (λ k l. h k (omega arith)))

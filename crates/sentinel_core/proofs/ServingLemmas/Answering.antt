@@ -8,7 +8,7 @@ use Rattle.ballot_law.specs.declared.cards.Kept.{Kept}
 use Rattle.ballot_law.specs.declared.cards.KeptMaster.{KeptMaster}
 use Rattle.ballot_law.specs.declared.cards.TheConstants.{MAX_EPOCH}
 use Rattle.ballot_law.specs.declared.commands.Command.{Command}
-use Rattle.ballot_law.specs.declared.commands.Command.TheVariants.{Ping, IsMasterDownByAddr, GetMasterAddrByName, Masters, Master, Replicas, Sentinels, MyId, CkQuorum, FlushConfig, Subscribe, Failover}
+use Rattle.ballot_law.specs.declared.commands.Command.TheVariants.{Ping, IsMasterDownByAddr, GetMasterAddrByName, Masters, Master, Replicas, Sentinels, MyId, CkQuorum, FlushConfig, Subscribe, Info, Failover}
 use Rattle.ballot_law.specs.declared.events.Event.TheVariants.{Command as Commanded}
 use Rattle.ballot_law.specs.declared.messages.Body.{Body}
 use Rattle.ballot_law.specs.declared.messages.Message.{Message}
@@ -99,6 +99,7 @@ command_writable plan now (Failover name) core h =
     (asked_switch_writable plan now (named plan name) core)
 command_writable plan now FlushConfig core h = tt
 command_writable plan now Subscribe core h = tt
+command_writable plan now Info core h = tt
 
 abbrev body_of : Body → Option Output → Body
 body_of other None = other

@@ -2,7 +2,7 @@
 use Rattle.std.specs.Prelude.{ℕ, Bool, true, false, [], ◌∷◌}
 use Rattle.ballot_law.specs.declared.messages.Body.{Body}
 use Rattle.ballot_law.specs.declared.commands.Command.{Command}
-use Rattle.ballot_law.specs.declared.commands.Command.TheVariants.{Ping, IsMasterDownByAddr, GetMasterAddrByName, Masters, Master, Replicas, Sentinels, MyId, CkQuorum, Failover, FlushConfig, Subscribe}
+use Rattle.ballot_law.specs.declared.commands.Command.TheVariants.{Ping, IsMasterDownByAddr, GetMasterAddrByName, Masters, Master, Replicas, Sentinels, MyId, CkQuorum, Failover, FlushConfig, Subscribe, Info}
 use Rattle.sentinel_core.specs.declared.inputs.commands.Asked.{Asked}
 use Rattle.sentinel_core.specs.declared.inputs.commands.Asked.TheVariants.{Whole, Replicas as OfReplicas, Sentinels as OfSentinels, Quorum}
 use Rattle.sentinel_rules.specs.Answers.{master_row, replica_rows, sentinel_rows, quorum_frame, reply}
@@ -24,6 +24,7 @@ is_plain (CkQuorum name) = false
 is_plain (Failover name) = false
 is_plain FlushConfig = false
 is_plain Subscribe = false
+is_plain Info = false
 
 -- it asks for a switch
 abbrev pub is_switch : Command → Bool

@@ -6,7 +6,7 @@ ghost use Rattle.ballot_law.specs.declared.messages.TheConstants.{ANSWER_MAX, SH
 ghost use Rattle.ballot_law.specs.Clocks.{clock};
 ghost use Rattle.resp2.specs.Framing.Frame.{spelling};
 ghost use Rattle.port_answers.specs.Answers.{no_such_master, ok_line, in_progress, in_tilt, no_good_replica, id_frame, subscribed, command_fault};
-ghost use Rattle.sentinel_rules.specs.Answers.{master_with_card, asked_of, master_row, all_masters, reply, named, about, address_of, switch_at, asked_to_switch, commanded};
+ghost use Rattle.sentinel_rules.specs.Answers.{master_with_card, asked_of, master_row, all_masters, info_frame, reply, named, about, address_of, switch_at, asked_to_switch, commanded};
 ghost use Rattle.sentinel_rules.specs.Plans.{roster_of, me, master_count};
 ghost use Rattle.sentinel_rules.specs.Rows.{masters_frame_by};
 ghost use Rattle.sentinel_core.specs.Inputs.Plain.{is_plain, is_switch, answer_about};
@@ -14,8 +14,8 @@ ghost use Rattle.resp2.specs.declared.command.CommandFault.TheVariants.{UnknownC
 
 use crate::inputs::facts::has_heir;
 use crate::inputs::rows::{
-    add_master, add_masters, add_quorum, add_replicas, add_sentinels, master_row, shown_card,
-    shown_masters,
+    add_info, add_master, add_masters, add_quorum, add_replicas, add_sentinels, master_row,
+    shown_card, shown_masters,
 };
 use ballot_law::{Addr, Body, Command, Name, RunId, ShortText, Shown, ShownList};
 use port_answers::AnswerText;
@@ -95,7 +95,8 @@ pub fn answer_plainly(plan: &Plan, core: &mut Core, now: u64, command: &Command)
         | Command::CkQuorum(_)
         | Command::Failover(_)
         | Command::FlushConfig
-        | Command::Subscribe => None,
+        | Command::Subscribe
+        | Command::Info => None,
     }
 }
 
@@ -143,6 +144,7 @@ pub fn answer_by_text(
         Command::CkQuorum(name) => answer_about(plan, core, now, name, Asked::Quorum, text, shown),
         Command::FlushConfig => answer_done(text, shown),
         Command::Subscribe => answer_subscribed(text, shown),
+        Command::Info => answer_info(plan, core, now, text, shown),
         Command::Ping
         | Command::IsMasterDownByAddr { .. }
         | Command::GetMasterAddrByName(_)
@@ -209,6 +211,18 @@ fn answer_masters(plan: &Plan, core: &Core, now: u64, text: AnswerText, shown: V
 {
     let mut text = text;
     add_masters(plan, core, now, &mut text);
+    reply(text, shown_masters(plan, core, shown))
+}
+
+/// The section of INFO that tells of the Sentinel.
+fn answer_info(plan: &Plan, core: &Core, now: u64, text: AnswerText, shown: Vec<Shown>) -> Body
+    requires text { text ≡ [] }
+    requires room { SHOWN_MAX ≤ vec_capacity shown }
+    requires list { shown.items ≡ [] }
+    ensures { result ≡ reply core.now (all_masters plan.now) (info_frame plan.now core.now (clock now)) }
+{
+    let mut text = text;
+    add_info(plan, core, now, &mut text);
     reply(text, shown_masters(plan, core, shown))
 }
 

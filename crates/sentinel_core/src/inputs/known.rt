@@ -1,17 +1,19 @@
 //! What rows say of nodes for those who ask.
 
 ghost use Rattle.std.specs.Prelude.{◌≡◌};
-ghost use Rattle.port_answers.specs.Limits.{IsContactRow, IsSaidRow, IsLinkRow, IsPlaceIfAny};
+ghost use Rattle.ballot_law.specs.Clocks.{clock};
+ghost use Rattle.port_answers.specs.Limits.{IsContactRow, IsSaidRow, IsLinkRow, IsPlaceIfAny, IsSpanIfAny};
+ghost use Rattle.sentinel_rules.specs.Answers.{tilted_for};
 ghost use Rattle.sentinel_rules.specs.Profiles.{down_for};
 ghost use Rattle.sentinel_rules.specs.Rows.{waiting_for, contact_row, told_id, told_role, said_row, link_row, stage_of, heard_leader, heard_epoch};
 
 use crate::inputs::facts::down_for;
-use ballot_law::{Addr, DataRole, HeardVote, Info, RunId};
+use ballot_law::{Addr, DataRole, HeardVote, Info, RunId, clock_of};
 use down_detector::Watch;
 use failover_states::FailoverState;
 use port_answers::{ContactRow, FailoverStage, LinkRow, SaidRow};
 use sentinel_rules::{ASSUMED_INFO, Contact, LINK_MAX_S};
-use sentinel_state::Node;
+use sentinel_state::{Core, Node};
 
 /// For how long a PING has waited; `at` is a moment of at most 2^62, here and below, and `period` the time between two
 /// PINGs.
@@ -99,6 +101,17 @@ pub(crate) fn link_row(node: &Node) -> LinkRow
         up: info.link_up,
         master: told_master(info),
         announced: node.announced,
+    }
+}
+
+/// For how many milliseconds the Sentinel has been in TILT, where it is.
+pub(crate) fn tilted_for(core: &Core, now: u64) -> Option<u64>
+    ensures value { result ≡ tilted_for core.now (clock now) }
+    ensures fits { IsSpanIfAny result }
+{
+    match core.tilted_since() {
+        Some(since) => Some(clock_of(now).saturating_sub(since)),
+        None => None,
     }
 }
 

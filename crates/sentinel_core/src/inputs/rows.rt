@@ -6,17 +6,19 @@ ghost use Rattle.ballot_law.specs.Clocks.{clock};
 ghost use Rattle.ballot_law.specs.Rosters.{no_member};
 ghost use Rattle.resp2.specs.Framing.Frame.{spelling};
 ghost use Rattle.port_answers.specs.Room.{bounded};
-ghost use Rattle.port_answers.specs.Limits.{IsMasterRow, IsReplicaRow, IsSentinelRow};
-ghost use Rattle.sentinel_rules.specs.Answers.{master_row, replica_row, sentinel_row, replica_rows, sentinel_rows, places_but, all_masters, is_usable, usable_count, quorum_frame};
+ghost use Rattle.port_answers.specs.Limits.{IsMasterRow, IsReplicaRow, IsSentinelRow, IsMasterLine};
+ghost use Rattle.sentinel_rules.specs.Answers.{master_row, master_line, info_frame, replica_row, sentinel_row, replica_rows, sentinel_rows, places_but, all_masters, is_usable, usable_count, quorum_frame};
 ghost use Rattle.sentinel_rules.specs.Rows.{is_left_out, places_told, master_frame_by, masters_frame_by, replica_frame_by, replicas_frame_by, sentinel_frame_by, sentinels_frame_by};
 ghost use Rattle.sentinel_rules.specs.Parts.{shown_of};
 ghost use Rattle.sentinel_rules.specs.States.{card_place};
 ghost use Rattle.sentinel_rules.specs.Plans.{roster_of, master_count, nodes_of, addr_at};
 
 use crate::inputs::facts::down_for;
-use crate::inputs::known::{contact_row, heard_epoch, heard_leader, link_row, said_row, stage_of};
+use crate::inputs::known::{
+    contact_row, heard_epoch, heard_leader, link_row, said_row, stage_of, tilted_for,
+};
 use ballot_law::{Addr, DataRole, Member, RunId, Shown, clock_of};
-use port_answers::{AnswerText, MasterRow, ReplicaRow, SentinelRow};
+use port_answers::{AnswerText, InfoSection, MasterLine, MasterRow, ReplicaRow, SentinelRow};
 use sentinel_rules::{ASSUMED_INFO, Profile};
 use sentinel_state::{Core, Plan, ping_period};
 
@@ -71,6 +73,23 @@ pub(crate) fn master_row(plan: &Plan, core: &Core, now: u64, m: u16) -> MasterRo
         stage: stage_of(core.stage(m)),
         contact: contact_row(ping_period(plan, m), at, node.watch, node.contact, since),
         said: said_row(at, DataRole::Master, &node),
+    }
+}
+
+/// What INFO says of a master.
+fn master_line(plan: &Plan, core: &Core, now: u64, m: u16) -> MasterLine
+    requires { m < master_count plan.now }
+    ensures value { result ≡ master_line plan.now core.now (clock now) m }
+    ensures fits { IsMasterLine result }
+{
+    let down = core.is_master_down(plan, m, now);
+    MasterLine {
+        name: plan.name(m),
+        addr: core.card(m).addr,
+        down,
+        odown: core.is_odown(plan, m, now, down),
+        replicas: (plan.node_count(m) as u64).saturating_sub(1),
+        sentinels: u64::from(plan.group_size()).saturating_sub(1) + 1,
     }
 }
 
@@ -161,6 +180,24 @@ pub(crate) fn add_masters(plan: &Plan, core: &Core, now: u64, text: &mut AnswerT
     for m in 0..count {
         add_master(plan.profile(), &master_row(plan, core, now, m), text);
     }
+}
+
+/// Writes the section of INFO that tells of this Sentinel and of all masters.
+pub(crate) fn add_info(plan: &Plan, core: &Core, now: u64, text: &mut AnswerText)
+    requires { text.old ≡ [] }
+    ensures { text.new ≡ spelling (info_frame plan.now core.now (clock now)) }
+{
+    let mut section = InfoSection::new();
+    let count = plan.master_count();
+    let masters = u64::from(count);
+    let tilt = tilted_for(core, now);
+    section.add_front(masters, tilt);
+    for m in 0..count {
+        let n = u64::from(m);
+        let line = master_line(plan, core, now, m);
+        section.add_master(n, &line);
+    }
+    text.add_section(&section);
 }
 
 /// The configurations of all masters.
