@@ -11,5 +11,4 @@ pub mod GoingOn
 pub mod Values
 pub mod Losing
 pub mod OwnWords
-pub mod StandIn
 pub mod InPlace

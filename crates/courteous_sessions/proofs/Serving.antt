@@ -12,7 +12,7 @@ use Rattle.client_commands.specs.Attendants.{Attendance}
 use Rattle.client_commands.specs.declared.protocols.Protocol.{Protocol}
 use Rattle.client_commands.specs.declared.protocols.Protocol.TheVariants.{Two}
 use Rattle.client_commands.proofs.Strangers.{strangers_are_answered}
-use Rattle.client_commands.specs.Courtesies.{is_stranger, ClientInfo, Answer, left, said, asks_masters, silent, courtesy, asker_after, kind_of}
+use Rattle.client_commands.specs.Courtesies.{is_stranger, ClientInfo, Answer, left, said, asks_info, silent, courtesy, asker_after, kind_of}
 use Rattle.client_commands.specs.declared.courtesies.Courtesy.TheVariants.{Said}
 use Rattle.client_commands.specs.Lines.{value_at, Answers as Reads}
 use Rattle.client_commands.proofs.LineStreams.{reads_next}
@@ -30,6 +30,7 @@ use Rattle.resp2.specs.Framing.Frame.{Frame}
 use Rattle.resp2.specs.Framing.Stream.{Held, reading, ended, bytes_in, Feeds}
 use Rattle.sentinel_cell.specs.declared.view.View.{View}
 use Rattle.sentinel_cell.specs.Histories.{World}
+use Rattle.sentinel_rules.specs.Plans.{roster_of}
 use Rattle.courteous_sessions.specs.Epochs.{heard_as}
 use Rattle.courteous_sessions.specs.Visits.{Guest, guest, turn_in, channel_turn, is_confined, confined, Answers, Serves, ServesBy, ServesBesideBy, ServesBeside, ServesIn, Tells, ServesAll, IsAnswered, IsUnanswered, IsRefused, Breaks, Receives}
 use Rattle.courteous_sessions.specs.OnTheWay.{AnswersBeside, IsReady, IsOnTheWay, IsDone, Steps, Drains, guest_of}
@@ -91,7 +92,7 @@ module _ (start : World) (now : ℕ) where
       responds_alike p (heard_as asker.current (redis_command_of value)) bytes q (heard_otherwise asker.current (redis_command_of value) not) h
   answers_alike asker (said answer) p value bytes q not h = ap (λ (x : Party). x.listens) h.1
   answers_alike asker silent p value bytes q not h = ap (λ (x : Party). x.listens) h.1
-  answers_alike asker asks_masters p value bytes q not h = responds_alike p (Ok Masters) h.answer q (λ e. let no : ⊥ = cc in no) h.turned
+  answers_alike asker asks_info p value bytes q not h = responds_alike p (Ok Info) h.answer q (λ e. let no : ⊥ = cc in no) h.turned
 
 -- a value that Pub/Sub doesn't answer isn't SUBSCRIBE, unless the client is still to give its password
 stranger_or_not : (test : Bool) (given : ChannelAnswer) → elim test as (λ _. ChannelAnswer) [ true ↦ other | false ↦ given ] ≡ other → (test ≡ true) ⊎ (given ≡ other)
@@ -125,27 +126,27 @@ module _ (start : World) (now : ℕ) where
   said_alike asker left p value bytes q is h = absurd (let no : ⊥ = cc in no)
   said_alike asker (said answer) p value bytes q is h = ap (λ (x : Party). x.listens) h.1
   said_alike asker silent p value bytes q is h = ap (λ (x : Party). x.listens) h.1
-  said_alike asker asks_masters p value bytes q is h = absurd (let no : ⊥ = cc in no)
+  said_alike asker asks_info p value bytes q is h = absurd (let no : ⊥ = cc in no)
 
   -- where Pub/Sub doesn't answer a value, the session below listens to notes after it as before
   pub listens_alike : (asker : ClientInfo) (l : Listening) (p : Party) (value : Frame) (bytes : List ℕ) (q : Party) → asker.protocol ≡ Two
-      → channel_turn asker l value ≡ other → Answers start now asker (courtesy asker value) p value bytes q → q.listens ≡ p.listens
+      → channel_turn asker l value ≡ other → Answers start now asker (courtesy (roster_of start.plan) asker value) p value bytes q → q.listens ≡ p.listens
   listens_alike asker l p value bytes q speaks none h = at (stranger_or_not (is_stranger asker) (turn_in asker.protocol l value) none) where
     at : (is_stranger asker ≡ true) ⊎ (turn_in asker.protocol l value ≡ other) → q.listens ≡ p.listens
-    at (inl stranger) = said_alike asker (courtesy asker value) p value bytes q (strangers_are_answered asker value stranger) h
-    at (inr is) = answers_alike start now asker (courtesy asker value) p value bytes q (not_subscribe value l (in_two asker l value speaks is)) h
+    at (inl stranger) = said_alike asker (courtesy (roster_of start.plan) asker value) p value bytes q (strangers_are_answered (roster_of start.plan) asker value stranger) h
+    at (inr is) = answers_alike start now asker (courtesy (roster_of start.plan) asker value) p value bytes q (not_subscribe value l (in_two asker l value speaks is)) h
 
   same_words : (asker : ClientInfo) (value : Frame) (becomes : Answer) (p : Party) (bytes : List ℕ) (q : Party)
       → Answers start now (asker_after asker value) becomes p value bytes q → Answers start now asker becomes p value bytes q
   same_words asker value left p bytes q h = h
   same_words asker value (said answer) p bytes q h = h
-  same_words asker value asks_masters p bytes q h = h
+  same_words asker value asks_info p bytes q h = h
   same_words asker value silent p bytes q h = h
 
   -- a value was attended to, and then answered by what became of it
   pub served_by_others : (before after : Attendance) (l : Listening) (hearing later : Hearing) (v w : View) (value : Frame) (more : List ℕ) → IsReady before l hearing
       → channel_turn before.asker l value ≡ other → confined l after.asker ≡ confined l (asker_after before.asker value) → later.told ≡ hearing.told
-      → Answers start now before.asker (courtesy before.asker value) (party v hearing.listens) value more (party w later.listens)
+      → Answers start now before.asker (courtesy (roster_of start.plan) before.asker value) (party v hearing.listens) value more (party w later.listens)
       → Serves start now (guest_of before l hearing v) value more (guest_of after l later w)
   served_by_others before after l hearing later v w value more ready none is told a =
       let q = party w later.listens in
@@ -162,7 +163,7 @@ module _ (start : World) (now : ℕ) where
   -- it is ready for the next one then
   pub ready_by_others : (before after : Attendance) (l : Listening) (hearing later : Hearing) (v w : View) (value : Frame) (more : List ℕ) → IsReady before l hearing
       → before.asker.protocol ≡ Two → channel_turn before.asker l value ≡ other → after.asker.listens ≡ is_confined after.asker.protocol l → after.held ≡ before.held
-      → Answers start now before.asker (courtesy before.asker value) (party v hearing.listens) value more (party w later.listens) → IsReady after l later
+      → Answers start now before.asker (courtesy (roster_of start.plan) before.asker value) (party v hearing.listens) value more (party w later.listens) → IsReady after l later
   ready_by_others before after l hearing later v w value more ready speaks none is held a =
       record {
         reads = held ∙ ready.reads ∙ ap (λ (h : Held). reading (bytes_in h)) (sym held);
@@ -187,7 +188,7 @@ module _ (start : World) (now : ℕ) where
       → before.asker.protocol ≡ Two → channel_turn before.asker l value ≡ other → confined l after.asker ≡ confined l (asker_after before.asker value)
       → after.asker.listens ≡ is_confined after.asker.protocol l → after.held ≡ before.held → later.told ≡ hearing.told → later_l ≡ l
       → (more : List ℕ) × (given ≡ unsent ++ more)
-      × Answers start now before.asker (courtesy before.asker value) (party v hearing.listens) value more (party w later.listens)
+      × Answers start now before.asker (courtesy (roster_of start.plan) before.asker value) (party v hearing.listens) value more (party w later.listens)
       → (more : List ℕ) × (given ≡ unsent ++ more) × IsReady after later_l later
       × Serves start now (guest_of before l hearing v) value more (guest_of after later_l later w)
   answered_by_others before after l later_l hearing later v w value unsent given ready speaks none is confines held told same got =
@@ -203,7 +204,7 @@ module _ (start : World) (now : ℕ) where
   pub answered_beside : (before after : Attendance) (l later_l : Listening) (hearing later : Hearing) (v w : View) (value : Frame) (unsent given : List ℕ) → IsReady before l hearing
       → channel_turn before.asker l value ≡ other → confined l after.asker ≡ confined l (asker_after before.asker value)
       → after.asker.listens ≡ is_confined after.asker.protocol l → after.held ≡ before.held → later ≡ hearing → later_l ≡ l
-      → AnswersBeside start now before.asker (courtesy before.asker value) v value unsent given w
+      → AnswersBeside start now before.asker (courtesy (roster_of start.plan) before.asker value) v value unsent given w
       → (more : List ℕ) × (given ≡ unsent ++ more) × IsReady after later_l later
       × ServesBeside start now (guest_of before l hearing v) value more (guest_of after later_l later w)
   answered_beside before after l later_l hearing later v w value unsent given ready none is confines held same_hearing same got =
@@ -239,7 +240,7 @@ module _ (start : World) (now : ℕ) where
   pub served_unheard : (before after : Attendance) (l : Listening) (hearing later : Hearing) (v w : View) (value : Frame) (more : List ℕ) (listens : Option ℕ) → IsReady before l hearing
       → channel_turn before.asker l value ≡ other → confined l after.asker ≡ confined l (asker_after before.asker value) → later.told ≡ hearing.told
       → later.listens ≡ hearing.listens
-      → Answers start now before.asker (courtesy before.asker value) (party v None) value more (party w listens)
+      → Answers start now before.asker (courtesy (roster_of start.plan) before.asker value) (party v None) value more (party w listens)
       → ServesBeside start now (guest_of before l hearing v) value more (guest_of after l later w)
   served_unheard before after l hearing later v w value more listens ready none is told since a =
       let at = λ (x : ClientInfo). let g : Guest = record { party = party v hearing.listens; asker = x; listening = l; told = hearing.told } in g in

@@ -10,7 +10,7 @@ use Rattle.pubsub.specs.Globs.{matches}
 use Rattle.pubsub.specs.Listening.{Listening, holds, is_listening}
 use Rattle.client_commands.specs.Attendants.{Attendance, TakesCommon}
 use Rattle.client_commands.specs.declared.port_facts.Figures.{Figures}
-use Rattle.client_commands.specs.Courtesies.{ClientInfo, MonitoredMaster, is_stranger}
+use Rattle.client_commands.specs.Courtesies.{ClientInfo, is_stranger}
 use Rattle.client_commands.proofs.OwnValues.{own_is_same}
 use Rattle.client_commands.specs.Infos.{info}
 use Rattle.resp2.specs.Asked.{IsCommon}
@@ -21,7 +21,7 @@ use Rattle.sentinel_core.specs.declared.serving.fault.ServeFault.TheVariants.{Ha
 use Rattle.port_sessions.specs.declared.hearing.Hearing.{Hearing}
 use Rattle.port_sessions.specs.Talks.{Party, party, Responds}
 use Rattle.ballot_law.specs.declared.commands.Command.{Command}
-use Rattle.ballot_law.specs.declared.commands.Command.TheVariants.{Masters, Subscribe}
+use Rattle.ballot_law.specs.declared.commands.Command.TheVariants.{Info, Subscribe}
 use Rattle.resp2.specs.declared.command.CommandFault.{CommandFault}
 use Rattle.resp2.specs.declared.framing.fault.FrameFault.{FrameFault}
 use Rattle.resp2.specs.Framing.Frame.{Frame, spelling, IsFrame}
@@ -31,7 +31,7 @@ use Rattle.client_commands.proofs.LineStreams.{value_is_frame}
 use Rattle.sentinel_cell.specs.declared.view.View.{View}
 use Rattle.sentinel_cell.specs.Histories.{World}
 use Rattle.courteous_sessions.specs.Epochs.{heard_as}
-use Rattle.courteous_sessions.specs.Visits.{Guest, guest, switches, hears_switches, confined, masters_of, introduced, TellsInfo, Serves, ServesIn, Tells, Breaks, Receives}
+use Rattle.courteous_sessions.specs.Visits.{Guest, guest, switches, hears_switches, confined, TellsInfo, Serves, ServesIn, Tells, Breaks, Receives}
 use Rattle.courteous_sessions.specs.declared.shapes.Shape.{Shape}
 use Rattle.courteous_sessions.specs.declared.shapes.Shape.TheVariants.{Plain}
 use Rattle.courteous_sessions.specs.Retelling.{shape_of, IsTold, JoinsTold}
@@ -48,14 +48,6 @@ on_ok (Err e) f h = h
 pub ok_of : {X E A : Type 0} (answer : Result X E) → is_err answer ≡ false → OnOk answer A → A
 ok_of (Ok x) is h = h
 ok_of (Err e) is h = absurd (true≢false is)
-
--- the masters were told
-pub introduced_now : (start : World) (knows : Bool) (before after : Attendance) (masters : List MonitoredMaster) → knows ≡ false → masters ≡ masters_of start
-    → after ≡ record before { asker = record before.asker { masters = masters } }
-    → after ≡ record before { asker = introduced start knows before.asker }
-introduced_now start true before after masters is same told = absurd (true≢false is)
-introduced_now start false before after masters is same told =
-    told ∙ ap (λ (ms : List MonitoredMaster). let a : Attendance = record before { asker = record before.asker { masters = ms } } in a) same
 
 -- a value that was read is one that a stream may have
 pub read_frame : {V : Type 0} (view : V → Frame) (value : V) (held after : Held) → held ≡ reading (bytes_in held) → Reads view held (Ok (Some value)) after → IsFrame (view value)
@@ -267,18 +259,18 @@ module _ (start : World) (now : ℕ) where
         value_served start now stream g before.held bytes (guest_of before l hearing v) value taken.rest after.held got.0 (guest_of after later_l later w) a found taken.left there,
       )
 
-  -- INFO was asked, and SENTINEL MASTERS answered
-  pub info_told : (figures : Figures) (value : Frame) (p q : Party) (answer text : List ℕ) → Responds start now p (Ok Masters) answer q
-      → (masters : Frame) × BeginsWith answer masters × (text ≡ spelling (info figures value masters)) → TellsInfo start now figures p value text q
+  -- INFO was asked, and its section told
+  pub info_told : (figures : Figures) (value : Frame) (p q : Party) (answer text : List ℕ) → Responds start now p (Ok Info) answer q
+      → (section : Frame) × BeginsWith answer section × (text ≡ spelling (info figures value section)) → TellsInfo start now figures p value text q
   info_told figures value p q answer text turned told =
       record { answer = answer; turned = turned; told = told.0; rest = told.1.rest; first = told.1.found; bytes_are = told.2 }
 
-  -- INFO was asked: SENTINEL MASTERS was answered, and its answer was cut off for that of INFO
-  pub masters_told : (n : ℕ) (figures : Figures) (value : Frame) (p q : Party) (unsent asked out text : List ℕ) → n ≡ length unsent
-      → (more : List ℕ) × (asked ≡ unsent ++ more) × Responds start now p (Ok Masters) more q
-      → (masters : Frame) × BeginsWith (drop n asked) masters × (text ≡ spelling (info figures value masters)) → out ≡ take n asked ++ text
+  -- INFO was asked: its section was told, and cut off for the answer to INFO
+  pub info_asked : (n : ℕ) (figures : Figures) (value : Frame) (p q : Party) (unsent asked out text : List ℕ) → n ≡ length unsent
+      → (more : List ℕ) × (asked ≡ unsent ++ more) × Responds start now p (Ok Info) more q
+      → (section : Frame) × BeginsWith (drop n asked) section × (text ≡ spelling (info figures value section)) → out ≡ take n asked ++ text
       → (more : List ℕ) × (out ≡ unsent ++ more) × TellsInfo start now figures p value more q
-  masters_told n figures value p q unsent asked out text size turned told is_out =
+  info_asked n figures value p q unsent asked out text size turned told is_out =
       let front = front_again n unsent asked turned.0 size turned.1 in
       let back = back_again n unsent asked turned.0 size turned.1 in (
         text,

@@ -2,7 +2,7 @@
 use Rattle.std.proofs.Common.{◌≡◌, ◌⊎◌, ℕ, List, ◌++◌, refl, sym, subst, inl, inr, Option, None, Result, Ok, Err}
 use Rattle.std.specs.Prelude.{OnOk, IfErr}
 use Rattle.ballot_law.specs.declared.commands.Command.{Command}
-use Rattle.ballot_law.specs.declared.commands.Command.TheVariants.{Masters, Subscribe}
+use Rattle.ballot_law.specs.declared.commands.Command.TheVariants.{Info, Subscribe}
 use Rattle.resp2.specs.Commands.{redis_command_of}
 use Rattle.resp2.specs.Framing.Frame.{Frame}
 use Rattle.sentinel_core.specs.declared.serving.fault.ServeFault.{ServeFault}
@@ -62,8 +62,8 @@ module _ (start : World) (now : ℕ) where
   by_own value current asked v w fault is h = record { asked = asked; for_it = inl (current, is); fails = h }
 
   -- or by what else was asked for it
-  pub by_masters : (value : Frame) (v w : View) (fault : ServeFault) → FailsAt start now v (Ok Masters) fault w → IsUnanswered start now v value fault w
-  by_masters value v w fault h = record { asked = Ok Masters; for_it = inr (inl refl); fails = h }
+  pub by_info : (value : Frame) (v w : View) (fault : ServeFault) → FailsAt start now v (Ok Info) fault w → IsUnanswered start now v value fault w
+  by_info value v w fault h = record { asked = Ok Info; for_it = inr (inl refl); fails = h }
 
   pub by_subscribe : (value : Frame) (v w : View) (fault : ServeFault) → FailsAt start now v (Ok Subscribe) fault w → IsUnanswered start now v value fault w
   by_subscribe value v w fault h = record { asked = Ok Subscribe; for_it = inr (inr refl); fails = h }

@@ -14,11 +14,11 @@ ghost use Rattle.resp2.specs.Framing.Stream.{reading, held_size, bytes_in};
 ghost use Rattle.courteous_sessions.specs.Clients.{newcomer};
 ghost use Rattle.courteous_sessions.specs.Epochs.{heard_as};
 ghost use Rattle.courteous_sessions.specs.OnTheWay.{AnswersBeside, IsReady, IsDirect, IsOnTheWay, IsSameAsker, Steps, Drains, BeginsWith, guest_of};
-ghost use Rattle.courteous_sessions.specs.Visits.{Guest, guest, is_confined, unsubscribed, channel_turn, introduced, TellsInfo, Answers, Serves, ServesBeside, FailsAt, IsUnanswered, Receives};
+ghost use Rattle.courteous_sessions.specs.Visits.{Guest, is_confined, unsubscribed, channel_turn, TellsInfo, Answers, Serves, ServesBeside, FailsAt, IsUnanswered, Receives};
 ghost use Rattle.pubsub.specs.Answering.{other};
 
 use crate::epochs::{FarRequest, far_request, heard_as, is_plain};
-use crate::questions::{bytes_from, first_value, monitored_by};
+use crate::questions::{bytes_from, first_value};
 use ballot_law::{Command, NoMemory, Text};
 use client_commands::{ClientInfo, CommandReader, Courtesy, Figures, PortFacts, Protocol};
 use port_sessions::Responder;
@@ -33,16 +33,15 @@ use std::sync::Wait;
 /// What tells what becomes of each value, to what the connection listens, and what answers a Sentinel's own commands,
 /// with all that isn't sent yet.
 ///
-/// The responder listens to notes where the connection hears of new addresses. `knows_masters` is whether the attendant was told the names of the Sentinel's masters, `far` the last
-/// request for a vote whose epoch was too far above the Sentinel's, and `answered` how many values were answered since
-/// that was asked. `direct` is whether a command may be answered where it stands in the next piece.
+/// The responder listens to notes where the connection hears of new addresses. `direct` is whether a command may be
+/// answered where it stands in the next piece, `far` the last request for a vote whose epoch was too far above the
+/// Sentinel's, and `answered` how many values were answered since that was asked.
 #[derive(Drop)]
 pub(crate) struct Exchange {
     pub(crate) alloc: Global,
     pub(crate) attendant: CommandReader,
     pub(crate) subscriptions: Subscriptions,
     pub(crate) responder: Responder,
-    pub(crate) knows_masters: bool,
     pub(crate) direct: bool,
     pub(crate) far: Option<FarRequest>,
     pub(crate) answered: u64,
@@ -57,7 +56,6 @@ fn newcomer(alloc: Global, id: u64) -> ClientInfo
         name: Text::from_vec(Vec::new(alloc)),
         protocol: Protocol::Two,
         listens: false,
-        masters: Vec::new(alloc),
         password: None,
         admitted: false,
         current: None,
@@ -71,7 +69,6 @@ impl Exchange {
         ensures attendant { result.attendant ≡ record { held = reading []; asker = newcomer id; text = [] } }
         ensures hears { result.responder.hears ≡ unheard }
         ensures unsent { result.responder.unsent.items ≡ [] }
-        ensures knows { result.knows_masters ≡ false }
         ensures direct { result.direct ≡ false }
         ensures silent { result.subscriptions ≡ unsubscribed }
     {
@@ -80,7 +77,6 @@ impl Exchange {
             attendant: CommandReader::new(alloc, newcomer(alloc, id)),
             subscriptions: Subscriptions::new(alloc),
             responder: Responder::new(alloc),
-            knows_masters: false,
             direct: false,
             far: None,
             answered: 0,
@@ -92,7 +88,7 @@ impl Exchange {
         ensures attendant { self.new.attendant ≡ record self.old.attendant { text = [] } }
         ensures hears { self.new.responder.hears ≡ self.old.responder.hears }
         ensures unsent { self.new.responder.unsent.items ≡ self.old.responder.unsent.items }
-        ensures kept { (self.new.knows_masters ≡ self.old.knows_masters) × (self.new.subscriptions ≡ self.old.subscriptions)
+        ensures kept { (self.new.subscriptions ≡ self.old.subscriptions)
             × (self.new.direct ≡ self.old.direct) }
     {
         self.responder.rest();
@@ -109,7 +105,7 @@ impl Exchange {
         } }
         ensures hears { self.new.responder.hears ≡ self.old.responder.hears }
         ensures unsent { self.new.responder.unsent.items ≡ self.old.responder.unsent.items }
-        ensures kept { (self.new.knows_masters ≡ self.old.knows_masters) × (self.new.subscriptions ≡ self.old.subscriptions) }
+        ensures kept { self.new.subscriptions ≡ self.old.subscriptions }
         ensures direct { self.new.direct ≡ false }
     {
         self.attendant.want_password(password);
@@ -121,7 +117,7 @@ impl Exchange {
         ensures attendant { self.new.attendant ≡ record self.old.attendant { asker = record self.old.attendant.asker { current = Some epoch } } }
         ensures hears { self.new.responder.hears ≡ self.old.responder.hears }
         ensures unsent { self.new.responder.unsent.items ≡ self.old.responder.unsent.items }
-        ensures kept { (self.new.knows_masters ≡ self.old.knows_masters) × (self.new.subscriptions ≡ self.old.subscriptions)
+        ensures kept { (self.new.subscriptions ≡ self.old.subscriptions)
             × (self.new.direct ≡ self.old.direct) }
     {
         self.attendant.note_epoch(epoch);
@@ -132,7 +128,7 @@ impl Exchange {
         ensures attendant { self.new.attendant ≡ self.old.attendant }
         ensures hears { self.new.responder.hears ≡ self.old.responder.hears }
         ensures unsent { self.new.responder.unsent.items ≡ self.old.responder.unsent.items }
-        ensures kept { (self.new.knows_masters ≡ self.old.knows_masters) × (self.new.subscriptions ≡ self.old.subscriptions)
+        ensures kept { (self.new.subscriptions ≡ self.old.subscriptions)
             × (self.new.direct ≡ self.old.direct) }
         ensures request { result ≡ self.old.far }
     {
@@ -144,7 +140,7 @@ impl Exchange {
         ensures attendant { self.new.attendant ≡ self.old.attendant }
         ensures hears { self.new.responder.hears ≡ self.old.responder.hears }
         ensures unsent { self.new.responder.unsent.items ≡ self.old.responder.unsent.items }
-        ensures kept { (self.new.knows_masters ≡ self.old.knows_masters) × (self.new.subscriptions ≡ self.old.subscriptions)
+        ensures kept { (self.new.subscriptions ≡ self.old.subscriptions)
             × (self.new.direct ≡ self.old.direct) }
         ensures count { result ≡ self.old.answered }
     {
@@ -158,7 +154,7 @@ impl Exchange {
         ensures attendant { self.new.attendant ≡ record self.old.attendant { asker = record self.old.attendant.asker { port = port } } }
         ensures hears { self.new.responder.hears ≡ self.old.responder.hears }
         ensures unsent { self.new.responder.unsent.items ≡ self.old.responder.unsent.items }
-        ensures kept { (self.new.knows_masters ≡ self.old.knows_masters) × (self.new.subscriptions ≡ self.old.subscriptions)
+        ensures kept { (self.new.subscriptions ≡ self.old.subscriptions)
             × (self.new.direct ≡ self.old.direct) }
         ensures before { result ≡ self.old.attendant.asker.port }
     {
@@ -180,33 +176,6 @@ impl Exchange {
         self.responder.stop_listening();
     }
 
-    /// Has it know the masters of the Sentinel, where it doesn't yet.
-    pub(crate) fn learn_masters<S: ConfStore>(
-        &mut self,
-        cell: &SharedSentinel<S>,
-    ) -> Result<(), ServeFault>
-        ensures attendant { OnOk result (self.new.attendant ≡ record self.old.attendant {
-          asker = introduced cell.now.start self.old.knows_masters self.old.attendant.asker;
-        }) }
-        ensures knows { OnOk result (self.new.knows_masters ≡ true) }
-        ensures hears { (self.new.responder.hears ≡ self.old.responder.hears) × (self.new.subscriptions ≡ self.old.subscriptions) }
-        ensures unsent { self.new.responder.unsent.items ≡ self.old.responder.unsent.items }
-        ensures direct { self.new.direct ≡ self.old.direct }
-        ensures fault { IfErr result (λ fault. fault ≡ ServeFault.NoMemory) }
-    {
-        if self.knows_masters {
-            return Ok(());
-        }
-        match monitored_by(self.alloc, cell.roster()) {
-            Ok(masters) => {
-                self.attendant.note_masters(masters);
-                self.knows_masters = true;
-                Ok(())
-            }
-            Err(_) => Err(ServeFault::NoMemory),
-        }
-    }
-
     /// The command as it is heard, or why the value is none. A request for a vote that isn't heard as it is, is kept.
     fn hear(&mut self, asked: &Result<Command, CommandFault>) -> Result<Command, CommandFault>
         requires { IfOk asked.now IsWithin }
@@ -215,7 +184,7 @@ impl Exchange {
         ensures attendant { self.new.attendant ≡ self.old.attendant }
         ensures hears { self.new.responder.hears ≡ self.old.responder.hears }
         ensures unsent { self.new.responder.unsent.items ≡ self.old.responder.unsent.items }
-        ensures kept { (self.new.knows_masters ≡ self.old.knows_masters) × (self.new.subscriptions ≡ self.old.subscriptions)
+        ensures kept { (self.new.subscriptions ≡ self.old.subscriptions)
             × (self.new.direct ≡ self.old.direct) }
     {
         let current = self.attendant.current();
@@ -243,7 +212,7 @@ impl Exchange {
         ensures err { OnErr result (self.new.responder.unsent.items ≡ self.old.responder.unsent.items) }
         ensures fault { IfErr result (λ fault. ((fault ≡ ServeFault.Halted) ⊎ (fault ≡ ServeFault.NoMemory))
             × FailsAt cell.now.start now seat.old.view asked.now fault seat.new.view) }
-        ensures kept { (self.new.attendant ≡ self.old.attendant) × (self.new.knows_masters ≡ self.old.knows_masters)
+        ensures kept { (self.new.attendant ≡ self.old.attendant)
             × (self.new.subscriptions ≡ self.old.subscriptions) × (self.new.direct ≡ self.old.direct) }
     {
         self.responder.answer(rt, cell, seat, now, asked)
@@ -268,7 +237,7 @@ impl Exchange {
         ensures err { OnErr result (self.new.responder.unsent.items ≡ self.old.responder.unsent.items) }
         ensures fault { IfErr result (λ fault. ((fault ≡ ServeFault.Halted) ⊎ (fault ≡ ServeFault.NoMemory))
             × FailsAt cell.now.start now seat.old.view (heard_as self.old.attendant.asker.current asked.now) fault seat.new.view) }
-        ensures kept { (self.new.attendant ≡ self.old.attendant) × (self.new.knows_masters ≡ self.old.knows_masters)
+        ensures kept { (self.new.attendant ≡ self.old.attendant)
             × (self.new.subscriptions ≡ self.old.subscriptions) × (self.new.direct ≡ self.old.direct) }
     {
         if is_plain(asked) {
@@ -278,7 +247,7 @@ impl Exchange {
         self.ask(rt, cell, seat, now, &heard)
     }
 
-    /// Answers INFO by the answer to SENTINEL MASTERS.
+    /// Answers INFO by the section that the Sentinel tells.
     fn tell_info<S: ConfStore, R: Wait>(
         &mut self,
         rt: &R,
@@ -296,11 +265,11 @@ impl Exchange {
         ensures told { self.new.responder.hears.told ≡ self.old.responder.hears.told }
         ensures err { OnErr result (self.new.responder.unsent.items ≡ self.old.responder.unsent.items) }
         ensures fault { IfErr result (λ fault. ((fault ≡ ServeFault.Halted) ⊎ (fault ≡ ServeFault.NoMemory))
-            × FailsAt cell.now.start now seat.old.view (Ok Command.Masters) fault seat.new.view) }
-        ensures kept { (self.new.knows_masters ≡ self.old.knows_masters) × (self.new.subscriptions ≡ self.old.subscriptions) }
+            × FailsAt cell.now.start now seat.old.view (Ok Command.Info) fault seat.new.view) }
+        ensures kept { self.new.subscriptions ≡ self.old.subscriptions }
     {
         let start = self.responder.unsent().len();
-        self.ask(rt, cell, seat, now, &Ok(Command::Masters))?;
+        self.ask(rt, cell, seat, now, &Ok(Command::Info))?;
         let informed = self.inform(value, start);
         self.responder.cut_back(start);
         match informed {
@@ -309,20 +278,20 @@ impl Exchange {
         }
     }
 
-    /// Has the attendant's text be the answer to INFO, by the answer to SENTINEL MASTERS, which begins at this place of
-    /// what isn't sent yet.
+    /// Has the attendant's text be the answer to INFO, by the Sentinel's section, which begins at this place of what isn't
+    /// sent yet.
     fn inform(&mut self, value: &Value, start: usize) -> Result<(), NoMemory>
         requires { start ≤ length self.old.responder.unsent.items }
-        ensures text { OnOk result ((masters : Frame) × BeginsWith (drop start self.old.responder.unsent.items) masters
-            × (self.new.attendant.text ≡ spelling (info self.old.attendant.asker.port.figures (view value.now) masters))) }
+        ensures text { OnOk result ((section : Frame) × BeginsWith (drop start self.old.responder.unsent.items) section
+            × (self.new.attendant.text ≡ spelling (info self.old.attendant.asker.port.figures (view value.now) section))) }
         ensures asker { self.new.attendant.asker ≡ self.old.attendant.asker }
         ensures held { self.new.attendant.held ≡ self.old.attendant.held }
         ensures hears { self.new.responder.hears ≡ self.old.responder.hears }
         ensures unsent { self.new.responder.unsent.items ≡ self.old.responder.unsent.items }
-        ensures kept { (self.new.knows_masters ≡ self.old.knows_masters) × (self.new.subscriptions ≡ self.old.subscriptions) }
+        ensures kept { self.new.subscriptions ≡ self.old.subscriptions }
     {
-        let masters = first_value(self.alloc, bytes_from(self.responder.unsent(), start))?;
-        self.attendant.inform(value, &masters)
+        let section = first_value(self.alloc, bytes_from(self.responder.unsent(), start))?;
+        self.attendant.inform(value, &section)
     }
 
     /// Has the value that was attended to be answered.
@@ -346,12 +315,12 @@ impl Exchange {
         ensures err { OnErr result (self.new.responder.unsent.items ≡ self.old.responder.unsent.items) }
         ensures fault { IfErr result (λ fault. ((fault ≡ ServeFault.Halted) ⊎ (fault ≡ ServeFault.NoMemory))
             × IsUnanswered cell.now.start now seat.old.view (view value.now) fault seat.new.view) }
-        ensures kept { (self.new.knows_masters ≡ self.old.knows_masters) × (self.new.subscriptions ≡ self.old.subscriptions) }
+        ensures kept { self.new.subscriptions ≡ self.old.subscriptions }
     {
         match kind {
             Courtesy::Left => self.hand_on(rt, cell, seat, now, &redis_command_of(value)),
             Courtesy::Said => self.responder.put_out(self.attendant.text()),
-            Courtesy::AsksMasters => self.tell_info(rt, cell, seat, now, value),
+            Courtesy::AsksInfo => self.tell_info(rt, cell, seat, now, value),
         }
     }
 
@@ -376,7 +345,7 @@ impl Exchange {
         ensures err { OnErr result (self.new.responder.unsent.items ≡ self.old.responder.unsent.items) }
         ensures fault { IfErr result (λ fault. ((fault ≡ ServeFault.Halted) ⊎ (fault ≡ ServeFault.NoMemory))
             × IsUnanswered cell.now.start now seat.old.view (view value.now) fault seat.new.view) }
-        ensures kept { (self.new.knows_masters ≡ self.old.knows_masters) × (self.new.subscriptions ≡ self.old.subscriptions) }
+        ensures kept { self.new.subscriptions ≡ self.old.subscriptions }
     {
         let since = self.responder.listen_since(None);
         let answered = self.answer(rt, cell, seat, now, value, kind);
@@ -401,7 +370,7 @@ impl Exchange {
         } }
         ensures hears { self.new.responder.hears ≡ self.old.responder.hears }
         ensures unsent { self.new.responder.unsent.items ≡ self.old.responder.unsent.items }
-        ensures kept { (self.new.knows_masters ≡ self.old.knows_masters) × (self.new.subscriptions ≡ self.old.subscriptions) }
+        ensures kept { self.new.subscriptions ≡ self.old.subscriptions }
     {
         let listens = self.is_confined();
         self.attendant.note_listening(listens);
@@ -430,9 +399,8 @@ impl Exchange {
         ensures fault { IfErr result (λ fault. ((fault ≡ ServeFault.Halted) ⊎ (fault ≡ ServeFault.NoMemory))
             × (self.new.responder.unsent.items ≡ self.old.responder.unsent.items)
             × IsUnanswered cell.now.start now seat.old.view (view value.now) fault seat.new.view) }
-        ensures knows { self.new.knows_masters ≡ self.old.knows_masters }
     {
-        match self.attendant.attend_to(value) {
+        match self.attendant.attend_to(value, cell.roster()) {
             Ok(kind) => {
                 self.answer(rt, cell, seat, now, value, kind)?;
                 self.note_listening();
@@ -463,9 +431,8 @@ impl Exchange {
         ensures fault { IfErr result (λ fault. ((fault ≡ ServeFault.Halted) ⊎ (fault ≡ ServeFault.NoMemory))
             × (self.new.responder.unsent.items ≡ self.old.responder.unsent.items)
             × IsUnanswered cell.now.start now seat.old.view (view value.now) fault seat.new.view) }
-        ensures knows { self.new.knows_masters ≡ self.old.knows_masters }
     {
-        match self.attendant.attend_to(value) {
+        match self.attendant.attend_to(value, cell.roster()) {
             Ok(kind) => {
                 self.answer_beside(rt, cell, seat, now, value, kind)?;
                 self.note_listening();
@@ -488,7 +455,6 @@ impl Exchange {
         ensures own { seat.new.cell ≡ seat.old.cell }
         ensures smaller { IfOk result (λ more. IsTrue more → held_size self.new.attendant.held < held_size self.old.attendant.held) }
         ensures ready { OnOk result (IsReady self.new.attendant self.new.subscriptions self.new.responder.hears) }
-        ensures knows { self.new.knows_masters ≡ self.old.knows_masters }
         ensures answered { (stream before bytes : List ℕ) (g : Guest) → self.old.responder.unsent.items ≡ before ++ bytes
             → IsOnTheWay cell.now.start now stream g self.old.attendant.held bytes
             (guest_of self.old.attendant self.old.subscriptions self.old.responder.hears seat.old.view) → (more : List ℕ) × (self.new.responder.unsent.items ≡ before ++ more)
@@ -516,7 +482,7 @@ impl Exchange {
         ensures asker { self.new.attendant.asker ≡ self.old.attendant.asker }
         ensures hears { self.new.responder.hears ≡ self.old.responder.hears }
         ensures unsent { self.new.responder.unsent.items ≡ self.old.responder.unsent.items }
-        ensures kept { (self.new.knows_masters ≡ self.old.knows_masters) × (self.new.subscriptions ≡ self.old.subscriptions) }
+        ensures kept { self.new.subscriptions ≡ self.old.subscriptions }
     {
         if self.attendant.is_stranger() || self.subscriptions.is_listening() {
             return None;
@@ -537,7 +503,6 @@ impl Exchange {
         ensures own { seat.new.cell ≡ seat.old.cell }
         ensures smaller { IfOk result (λ more. IsTrue more → held_size self.new.attendant.held < held_size self.old.attendant.held) }
         ensures ready { OnOk result (IsReady self.new.attendant self.new.subscriptions self.new.responder.hears) }
-        ensures knows { self.new.knows_masters ≡ self.old.knows_masters }
         ensures answered { (stream before bytes : List ℕ) (g : Guest) → self.old.responder.unsent.items ≡ before ++ bytes
             → IsOnTheWay cell.now.start now stream g self.old.attendant.held bytes
             (guest_of self.old.attendant self.old.subscriptions self.old.responder.hears seat.old.view) → (more : List ℕ) × (self.new.responder.unsent.items ≡ before ++ more)
@@ -565,7 +530,6 @@ impl Exchange {
         requires ready { IsReady self.old.attendant self.old.subscriptions self.old.responder.hears }
         ensures own { seat.new.cell ≡ seat.old.cell }
         ensures ready { OnOk result (IsReady self.new.attendant self.new.subscriptions self.new.responder.hears) }
-        ensures knows { self.new.knows_masters ≡ self.old.knows_masters }
         ensures answered { (stream before bytes : List ℕ) (g : Guest) → self.old.responder.unsent.items ≡ before ++ bytes
             → IsOnTheWay cell.now.start now stream g self.old.attendant.held bytes
             (guest_of self.old.attendant self.old.subscriptions self.old.responder.hears seat.old.view) → (more : List ℕ) × (self.new.responder.unsent.items ≡ before ++ more)
@@ -594,7 +558,6 @@ impl Exchange {
         requires ready { IsReady self.old.attendant self.old.subscriptions self.old.responder.hears }
         ensures own { seat.new.cell ≡ seat.old.cell }
         ensures ready { OnOk result (IsReady self.new.attendant self.new.subscriptions self.new.responder.hears) }
-        ensures knows { self.new.knows_masters ≡ self.old.knows_masters }
         ensures direct { OnOk result (self.new.direct ≡ true → IsDirect self.new.attendant self.new.subscriptions) }
         ensures answered { (stream before bytes : List ℕ) (g : Guest) → self.old.responder.unsent.items ≡ before ++ bytes
             → IsOnTheWay cell.now.start now stream g (reading (bytes_in self.old.attendant.held ++ rest.now)) bytes
@@ -616,7 +579,7 @@ impl Exchange {
     }
 
     /// Takes the next piece, and answers the values that are whole with it.
-    fn take_known<S: ConfStore, R: Wait>(
+    pub(crate) fn take_piece<S: ConfStore, R: Wait>(
         &mut self,
         rt: &R,
         cell: &SharedSentinel<S>,
@@ -629,7 +592,6 @@ impl Exchange {
         requires direct { self.old.direct ≡ true → IsDirect self.old.attendant self.old.subscriptions }
         ensures own { seat.new.cell ≡ seat.old.cell }
         ensures ready { OnOk result (IsReady self.new.attendant self.new.subscriptions self.new.responder.hears) }
-        ensures knows { self.new.knows_masters ≡ self.old.knows_masters }
         ensures direct { OnOk result (self.new.direct ≡ true → IsDirect self.new.attendant self.new.subscriptions) }
         ensures received { (more : List ℕ) × (self.new.responder.unsent.items ≡ self.old.responder.unsent.items ++ more)
             × Receives cell.now.start now (bytes_in self.old.attendant.held ++ piece.now)
@@ -646,33 +608,5 @@ impl Exchange {
             }
             Err(fault) => Err(fault),
         }
-    }
-
-    /// Takes the next piece, and answers the values that are whole with it.
-    pub(crate) fn take_piece<S: ConfStore, R: Wait>(
-        &mut self,
-        rt: &R,
-        cell: &SharedSentinel<S>,
-        seat: &mut Seat,
-        now: u64,
-        piece: &[u8],
-    ) -> Result<(), ServeFault>
-        requires own { seat.old.cell ≡ cell.now.id }
-        requires ready { IsReady self.old.attendant self.old.subscriptions self.old.responder.hears }
-        requires direct { self.old.direct ≡ true → IsDirect self.old.attendant self.old.subscriptions }
-        ensures own { seat.new.cell ≡ seat.old.cell }
-        ensures ready { OnOk result (IsReady self.new.attendant self.new.subscriptions self.new.responder.hears) }
-        ensures direct { OnOk result (self.new.direct ≡ true → IsDirect self.new.attendant self.new.subscriptions) }
-        ensures knows { OnOk result (self.new.knows_masters ≡ true) }
-        ensures received { (more : List ℕ) × (self.new.responder.unsent.items ≡ self.old.responder.unsent.items ++ more)
-            × Receives cell.now.start now (bytes_in self.old.attendant.held ++ piece.now)
-            (guest (party seat.old.view self.old.responder.hears.listens) self.old.subscriptions self.old.responder.hears.told
-            (introduced cell.now.start self.old.knows_masters self.old.attendant.asker)) result (bytes_in self.new.attendant.held) more
-            (guest_of self.new.attendant self.new.subscriptions self.new.responder.hears seat.new.view) }
-    {
-        if self.learn_masters(cell).is_err() {
-            return Err(ServeFault::NoMemory);
-        }
-        self.take_known(rt, cell, seat, now, piece)
     }
 }

@@ -5,8 +5,7 @@ ghost use Rattle.port_sessions.specs.Stores.{may_store, one_if};
 ghost use Rattle.resp2.specs.Framing.Stream.{reading, held_size, bytes_in};
 ghost use Rattle.courteous_sessions.specs.GoingOn.{IsWithin, TakesAhead, StepsWithin, DrainsWithin, GoesOn};
 ghost use Rattle.courteous_sessions.specs.OnTheWay.{IsReady, IsDirect, guest_of};
-ghost use Rattle.courteous_sessions.specs.Visits.{Guest, guest, introduced};
-ghost use Rattle.port_sessions.specs.Talks.{party};
+ghost use Rattle.courteous_sessions.specs.Visits.{Guest};
 
 use crate::exchange::Exchange;
 use ballot_law::{Command, NoMemory};
@@ -47,7 +46,7 @@ impl Exchange {
         ensures asker { self.new.attendant.asker ≡ self.old.attendant.asker }
         ensures hears { self.new.responder.hears ≡ self.old.responder.hears }
         ensures unsent { self.new.responder.unsent.items ≡ self.old.responder.unsent.items }
-        ensures kept { (self.new.knows_masters ≡ self.old.knows_masters) × (self.new.subscriptions ≡ self.old.subscriptions) }
+        ensures kept { self.new.subscriptions ≡ self.old.subscriptions }
     {
         if limit.allows(asked) {
             limit.follow(self.attendant.held());
@@ -66,7 +65,7 @@ impl Exchange {
         ensures asker { self.new.attendant.asker ≡ self.old.attendant.asker }
         ensures hears { self.new.responder.hears ≡ self.old.responder.hears }
         ensures unsent { self.new.responder.unsent.items ≡ self.old.responder.unsent.items }
-        ensures kept { (self.new.knows_masters ≡ self.old.knows_masters) × (self.new.subscriptions ≡ self.old.subscriptions) }
+        ensures kept { self.new.subscriptions ≡ self.old.subscriptions }
     {
         let Some(command) = self.next_common() else {
             return self.value_ahead(limit);
@@ -86,7 +85,7 @@ impl Exchange {
         ensures asker { self.new.attendant.asker ≡ self.old.attendant.asker }
         ensures hears { self.new.responder.hears ≡ self.old.responder.hears }
         ensures unsent { self.new.responder.unsent.items ≡ self.old.responder.unsent.items }
-        ensures kept { (self.new.knows_masters ≡ self.old.knows_masters) × (self.new.subscriptions ≡ self.old.subscriptions) }
+        ensures kept { self.new.subscriptions ≡ self.old.subscriptions }
     {
         match self.attendant.next() {
             Ok(Some(value)) => {
@@ -115,7 +114,6 @@ impl Exchange {
         requires mark { limit.old.mark ≡ self.old.attendant.held }
         ensures own { seat.new.cell ≡ seat.old.cell }
         ensures ready { OnOk result (IsReady self.new.attendant self.new.subscriptions self.new.responder.hears) }
-        ensures knows { self.new.knows_masters ≡ self.old.knows_masters }
         ensures mark { result ≡ Ok None → limit.new.mark ≡ self.new.attendant.held }
         ensures smaller { result ≡ Ok None → held_size self.new.attendant.held < held_size self.old.attendant.held }
         ensures answered { (most : ℕ) (stream before bytes : List ℕ) (g : Guest) → self.old.responder.unsent.items ≡ before ++ bytes
@@ -153,7 +151,6 @@ impl Exchange {
         requires mark { limit.old.mark ≡ self.old.attendant.held }
         ensures own { seat.new.cell ≡ seat.old.cell }
         ensures ready { OnOk result (IsReady self.new.attendant self.new.subscriptions self.new.responder.hears) }
-        ensures knows { self.new.knows_masters ≡ self.old.knows_masters }
         ensures answered { (most : ℕ) (stream before bytes : List ℕ) (g : Guest) → self.old.responder.unsent.items ≡ before ++ bytes
             → IsWithin cell.now.start now most stream g limit.old.most self.old.attendant.held bytes
             (guest_of self.old.attendant self.old.subscriptions self.old.responder.hears seat.old.view) → (more : List ℕ) × (self.new.responder.unsent.items ≡ before ++ more)
@@ -178,7 +175,7 @@ impl Exchange {
         ensures asker { self.new.attendant.asker ≡ self.old.attendant.asker }
         ensures hears { self.new.responder.hears ≡ self.old.responder.hears }
         ensures unsent { self.new.responder.unsent.items ≡ self.old.responder.unsent.items }
-        ensures kept { (self.new.knows_masters ≡ self.old.knows_masters) × (self.new.subscriptions ≡ self.old.subscriptions) }
+        ensures kept { self.new.subscriptions ≡ self.old.subscriptions }
     {
         if self.attendant.feed(piece).is_err() {
             return Err(NoMemory);
@@ -200,7 +197,6 @@ impl Exchange {
         requires ready { IsReady self.old.attendant self.old.subscriptions self.old.responder.hears }
         ensures own { seat.new.cell ≡ seat.old.cell }
         ensures ready { OnOk result (IsReady self.new.attendant self.new.subscriptions self.new.responder.hears) }
-        ensures knows { self.new.knows_masters ≡ self.old.knows_masters }
         ensures direct { OnOk result (self.new.direct ≡ true → IsDirect self.new.attendant self.new.subscriptions) }
         ensures answered { (stream before bytes : List ℕ) (g : Guest) → self.old.responder.unsent.items ≡ before ++ bytes
             → IsWithin cell.now.start now most stream g most (reading (bytes_in self.old.attendant.held ++ rest.now)) bytes
@@ -222,7 +218,7 @@ impl Exchange {
     }
 
     /// Takes the next piece, and answers the values that are whole with it, of which so many may store.
-    fn take_some_known<S: ConfStore, R: Wait>(
+    pub(crate) fn take_some<S: ConfStore, R: Wait>(
         &mut self,
         rt: &R,
         cell: &SharedSentinel<S>,
@@ -236,7 +232,6 @@ impl Exchange {
         requires direct { self.old.direct ≡ true → IsDirect self.old.attendant self.old.subscriptions }
         ensures own { seat.new.cell ≡ seat.old.cell }
         ensures ready { OnOk result (IsReady self.new.attendant self.new.subscriptions self.new.responder.hears) }
-        ensures knows { self.new.knows_masters ≡ self.old.knows_masters }
         ensures direct { OnOk result (self.new.direct ≡ true → IsDirect self.new.attendant self.new.subscriptions) }
         ensures received { (more : List ℕ) × (self.new.responder.unsent.items ≡ self.old.responder.unsent.items ++ more)
             × GoesOn cell.now.start now most (bytes_in self.old.attendant.held ++ piece.now)
@@ -253,34 +248,5 @@ impl Exchange {
             }
             Err(fault) => Err(fault),
         }
-    }
-
-    /// Takes the next piece, and answers the values that are whole with it, of which so many may store.
-    pub(crate) fn take_some<S: ConfStore, R: Wait>(
-        &mut self,
-        rt: &R,
-        cell: &SharedSentinel<S>,
-        seat: &mut Seat,
-        now: u64,
-        piece: &[u8],
-        most: u64,
-    ) -> Result<Reach, ServeFault>
-        requires own { seat.old.cell ≡ cell.now.id }
-        requires ready { IsReady self.old.attendant self.old.subscriptions self.old.responder.hears }
-        requires direct { self.old.direct ≡ true → IsDirect self.old.attendant self.old.subscriptions }
-        ensures own { seat.new.cell ≡ seat.old.cell }
-        ensures ready { OnOk result (IsReady self.new.attendant self.new.subscriptions self.new.responder.hears) }
-        ensures direct { OnOk result (self.new.direct ≡ true → IsDirect self.new.attendant self.new.subscriptions) }
-        ensures knows { OnOk result (self.new.knows_masters ≡ true) }
-        ensures received { (more : List ℕ) × (self.new.responder.unsent.items ≡ self.old.responder.unsent.items ++ more)
-            × GoesOn cell.now.start now most (bytes_in self.old.attendant.held ++ piece.now)
-            (guest (party seat.old.view self.old.responder.hears.listens) self.old.subscriptions self.old.responder.hears.told
-            (introduced cell.now.start self.old.knows_masters self.old.attendant.asker)) result (bytes_in self.new.attendant.held) more
-            (guest_of self.new.attendant self.new.subscriptions self.new.responder.hears seat.new.view) }
-    {
-        if self.learn_masters(cell).is_err() {
-            return Err(ServeFault::NoMemory);
-        }
-        self.take_some_known(rt, cell, seat, now, piece, most)
     }
 }

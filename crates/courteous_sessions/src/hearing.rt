@@ -62,7 +62,7 @@ impl Exchange {
             ≡ listening_after self.old.subscriptions (channel_turn self.old.attendant.asker self.old.subscriptions (view value.now))) }
         ensures attendant { self.new.attendant ≡ self.old.attendant }
         ensures hears { self.new.responder.hears ≡ self.old.responder.hears }
-        ensures unsent { (self.new.responder.unsent.items ≡ self.old.responder.unsent.items) × (self.new.knows_masters ≡ self.old.knows_masters) }
+        ensures unsent { self.new.responder.unsent.items ≡ self.old.responder.unsent.items }
         ensures fault { IfErr result (λ fault. fault ≡ ServeFault.NoMemory) }
     {
         if self.attendant.is_stranger() {
@@ -90,7 +90,7 @@ impl Exchange {
         ensures tuned { OnOk result (IsTuned cell.now.start now true self.old.responder.hears seat.old.view self.new.responder.hears seat.new.view) }
         ensures attendant { self.new.attendant ≡ self.old.attendant }
         ensures unsent { self.new.responder.unsent.items ≡ self.old.responder.unsent.items }
-        ensures kept { (self.new.knows_masters ≡ self.old.knows_masters) × (self.new.subscriptions ≡ self.old.subscriptions) }
+        ensures kept { self.new.subscriptions ≡ self.old.subscriptions }
         ensures fault { IfErr result (λ fault. ((fault ≡ ServeFault.Halted) ⊎ (fault ≡ ServeFault.NoMemory))
             × FailsAt cell.now.start now seat.old.view (Ok Subscribe) fault seat.new.view) }
     {
@@ -112,7 +112,7 @@ impl Exchange {
             seat.new.view) }
         ensures attendant { self.new.attendant ≡ self.old.attendant }
         ensures unsent { self.new.responder.unsent.items ≡ self.old.responder.unsent.items }
-        ensures kept { (self.new.knows_masters ≡ self.old.knows_masters) × (self.new.subscriptions ≡ self.old.subscriptions) }
+        ensures kept { self.new.subscriptions ≡ self.old.subscriptions }
         ensures fault { IfErr result (λ fault. ((fault ≡ ServeFault.Halted) ⊎ (fault ≡ ServeFault.NoMemory))
             × FailsAt cell.now.start now seat.old.view (Ok Subscribe) fault seat.new.view) }
     {
@@ -140,7 +140,7 @@ impl Exchange {
           asker = record self.old.attendant.asker { listens = is_confined self.old.attendant.asker.protocol self.old.subscriptions };
         }) }
         ensures unsent { OnOk result (self.new.responder.unsent.items ≡ self.old.responder.unsent.items ++ answer.now) }
-        ensures kept { (self.new.knows_masters ≡ self.old.knows_masters) × (self.new.subscriptions ≡ self.old.subscriptions) }
+        ensures kept { self.new.subscriptions ≡ self.old.subscriptions }
         ensures fault { IfErr result (λ fault. ((fault ≡ ServeFault.Halted) ⊎ (fault ≡ ServeFault.NoMemory))
             × (self.new.responder.unsent.items ≡ self.old.responder.unsent.items)
             × FailsAt cell.now.start now seat.old.view (Ok Subscribe) fault seat.new.view) }
@@ -173,7 +173,6 @@ impl Exchange {
         ensures fault { IfErr result (λ fault. ((fault ≡ ServeFault.Halted) ⊎ (fault ≡ ServeFault.NoMemory))
             × (self.new.responder.unsent.items ≡ self.old.responder.unsent.items)
             × IsUnanswered cell.now.start now seat.old.view (view value.now) fault seat.new.view) }
-        ensures knows { self.new.knows_masters ≡ self.old.knows_masters }
     {
         let mut answer = OutText::new(self.alloc);
         match self.channel_turn(value, &mut answer)? {
@@ -192,7 +191,7 @@ impl Exchange {
         ensures err { OnErr result (self.new.responder.unsent.items ≡ self.old.responder.unsent.items) }
         ensures hears { self.new.responder.hears ≡ self.old.responder.hears }
         ensures attendant { self.new.attendant ≡ self.old.attendant }
-        ensures kept { (self.new.knows_masters ≡ self.old.knows_masters) × (self.new.subscriptions ≡ self.old.subscriptions)
+        ensures kept { (self.new.subscriptions ≡ self.old.subscriptions)
             × (self.new.direct ≡ self.old.direct) }
         ensures fault { IfErr result (λ fault. fault ≡ ServeFault.NoMemory) }
     {
@@ -213,7 +212,7 @@ impl Exchange {
         ensures err { OnErr result (self.new.responder.unsent.items ≡ self.old.responder.unsent.items) }
         ensures hears { self.new.responder.hears ≡ self.old.responder.hears }
         ensures attendant { self.new.attendant ≡ self.old.attendant }
-        ensures kept { (self.new.knows_masters ≡ self.old.knows_masters) × (self.new.subscriptions ≡ self.old.subscriptions)
+        ensures kept { (self.new.subscriptions ≡ self.old.subscriptions)
             × (self.new.direct ≡ self.old.direct) }
     {
         let mut told = OutText::new(self.alloc);
@@ -240,7 +239,7 @@ impl Exchange {
         ensures told { NotifiesBelow roster.now note.now entry self.old.attendant.asker.protocol self.old.subscriptions self.old.responder.hears self.old.responder.unsent.items result self.new.responder.hears
             self.new.responder.unsent.items }
         ensures attendant { self.new.attendant ≡ self.old.attendant }
-        ensures kept { (self.new.knows_masters ≡ self.old.knows_masters) × (self.new.subscriptions ≡ self.old.subscriptions)
+        ensures kept { (self.new.subscriptions ≡ self.old.subscriptions)
             × (self.new.direct ≡ self.old.direct) }
     {
         roster.is_made();
@@ -259,7 +258,7 @@ impl Exchange {
         ensures told { TellsBelow event.now self.old.attendant.asker.protocol self.old.subscriptions self.old.responder.unsent.items result self.new.responder.unsent.items }
         ensures hears { self.new.responder.hears ≡ self.old.responder.hears }
         ensures attendant { self.new.attendant ≡ self.old.attendant }
-        ensures kept { (self.new.knows_masters ≡ self.old.knows_masters) × (self.new.subscriptions ≡ self.old.subscriptions)
+        ensures kept { (self.new.subscriptions ≡ self.old.subscriptions)
             × (self.new.direct ≡ self.old.direct) }
     {
         let mut told = OutText::new(self.alloc);

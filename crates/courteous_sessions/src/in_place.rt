@@ -12,10 +12,9 @@ ghost use Rattle.courteous_sessions.specs.Visits.{Guest};
 
 use crate::exchange::Exchange;
 use crate::going_on::asked_by;
-use crate::stub::common_in;
 use ballot_law::Command;
-use client_commands::Protocol;
 use port_sessions::may_store;
+use resp2::common_in;
 use sentinel_cell::{Seat, SharedSentinel};
 use sentinel_conf::ConfStore;
 use sentinel_core::ServeFault;
@@ -69,7 +68,7 @@ impl Exchange {
         requires direct { IsDirect self.old.attendant self.old.subscriptions }
         ensures own { seat.new.cell ≡ seat.old.cell }
         ensures ready { OnOk result (IsReady self.new.attendant self.new.subscriptions self.new.responder.hears) }
-        ensures kept { (self.new.attendant ≡ self.old.attendant) × (self.new.knows_masters ≡ self.old.knows_masters)
+        ensures kept { (self.new.attendant ≡ self.old.attendant)
             × (self.new.subscriptions ≡ self.old.subscriptions) × (self.new.direct ≡ self.old.direct) }
         ensures shorter { IfOk result (λ next. IfSome next (λ more. length more.now < length rest.now)) }
         ensures answered { (most : ℕ) (stream before bytes : List ℕ) (g : Guest) → self.old.responder.unsent.items ≡ before ++ bytes
@@ -103,7 +102,7 @@ impl Exchange {
         requires direct { self.old.direct ≡ true → IsDirect self.old.attendant self.old.subscriptions }
         ensures own { seat.new.cell ≡ seat.old.cell }
         ensures ready { OnOk result (IsReady self.new.attendant self.new.subscriptions self.new.responder.hears) }
-        ensures kept { (self.new.attendant ≡ self.old.attendant) × (self.new.knows_masters ≡ self.old.knows_masters)
+        ensures kept { (self.new.attendant ≡ self.old.attendant)
             × (self.new.subscriptions ≡ self.old.subscriptions) × (self.new.direct ≡ self.old.direct) }
         ensures answered { (most : ℕ) → (more : List ℕ) × (self.new.responder.unsent.items ≡ self.old.responder.unsent.items ++ more)
             × DrainsInPlace cell.now.start now most (bytes_in self.old.attendant.held ++ piece.now)

@@ -21,7 +21,6 @@ mod questions;
 mod retelling;
 mod shapes;
 mod speaking;
-mod stub;
 
 pub use client_session::ClientSession;
 pub use courteous_session::CourteousSession;

@@ -1,12 +1,10 @@
-//! What is read of an answer that isn't sent yet, and of a roster.
+//! What is read of an answer that isn't sent yet.
 
-ghost use Rattle.std.specs.Prelude.{◌≡◌, ◌≤◌, IfOk, drop, length, map};
+ghost use Rattle.std.specs.Prelude.{◌≡◌, ◌≤◌, IfOk, drop, length};
 ghost use Rattle.resp2.specs.Framing.Frame.{view};
 ghost use Rattle.courteous_sessions.specs.OnTheWay.{BeginsWith};
-ghost use Rattle.courteous_sessions.specs.Visits.{monitored};
 
-use ballot_law::{NoMemory, Roster};
-use client_commands::MonitoredMaster;
+use ballot_law::NoMemory;
 use resp2::{Frames, Value};
 use std::alloc::Global;
 
@@ -31,20 +29,4 @@ pub(crate) fn first_value(alloc: Global, bytes: &[u8]) -> Result<Value, NoMemory
         Ok(Some(value)) => Ok(value),
         _ => Err(NoMemory),
     }
-}
-
-/// The masters of a roster, as a connection knows them.
-pub(crate) fn monitored_by(alloc: Global, roster: &Roster) -> Result<Vec<MonitoredMaster>, NoMemory>
-    ensures { IfOk result (λ masters. masters.items ≡ map monitored roster.now.masters) }
-{
-    let mut monitored = Vec::new(alloc);
-    let mut rest = roster.masters();
-    while let [master, more @ ..] = rest {
-        monitored.push(MonitoredMaster {
-            name: master.name,
-            nodes: master.nodes().len(),
-        })?;
-        rest = more;
-    }
-    Ok(monitored)
 }

@@ -33,7 +33,7 @@ impl Exchange {
         ensures fault { IfErr result (λ fault. fault ≡ ServeFault.NoMemory) }
         ensures hears { self.new.responder.hears ≡ self.old.responder.hears }
         ensures attendant { self.new.attendant ≡ self.old.attendant }
-        ensures kept { (self.new.knows_masters ≡ self.old.knows_masters) × (self.new.subscriptions ≡ self.old.subscriptions) }
+        ensures kept { self.new.subscriptions ≡ self.old.subscriptions }
     {
         if !is_null(bytes_from(self.responder.unsent(), start)) {
             return Ok(());
@@ -50,7 +50,7 @@ impl Exchange {
         ensures fault { IfErr result (λ fault. fault ≡ ServeFault.NoMemory) }
         ensures hears { self.new.responder.hears ≡ self.old.responder.hears }
         ensures attendant { self.new.attendant ≡ self.old.attendant }
-        ensures kept { (self.new.knows_masters ≡ self.old.knows_masters) × (self.new.subscriptions ≡ self.old.subscriptions) }
+        ensures kept { self.new.subscriptions ≡ self.old.subscriptions }
     {
         let mut told = OutText::new(self.alloc);
         let answer = bytes_from(self.responder.unsent(), start);
@@ -70,7 +70,7 @@ impl Exchange {
         ensures fault { IfErr result (λ fault. fault ≡ ServeFault.NoMemory) }
         ensures hears { self.new.responder.hears ≡ self.old.responder.hears }
         ensures attendant { self.new.attendant ≡ self.old.attendant }
-        ensures kept { (self.new.knows_masters ≡ self.old.knows_masters) × (self.new.subscriptions ≡ self.old.subscriptions) }
+        ensures kept { self.new.subscriptions ≡ self.old.subscriptions }
     {
         match shape {
             Shape::Plain => self.retell_plain(start),
@@ -105,7 +105,6 @@ impl Exchange {
         ensures fault { IfErr result (λ fault. ((fault ≡ ServeFault.Halted) ⊎ (fault ≡ ServeFault.NoMemory))
             × (self.new.responder.unsent.items ≡ self.old.responder.unsent.items)
             × IsUnanswered cell.now.start now seat.old.view (view value.now) fault seat.new.view) }
-        ensures knows { self.new.knows_masters ≡ self.old.knows_masters }
     {
         let start = self.responder.unsent().len();
         self.answer_value(rt, cell, seat, now, value)?;
@@ -134,7 +133,7 @@ impl Exchange {
         ensures err { OnErr result (self.new.responder.unsent.items ≡ self.old.responder.unsent.items) }
         ensures fault { IfErr result (λ fault. ((fault ≡ ServeFault.Halted) ⊎ (fault ≡ ServeFault.NoMemory))
             × FailsAt cell.now.start now seat.old.view (heard_as self.old.attendant.asker.current (Ok command)) fault seat.new.view) }
-        ensures kept { (self.new.attendant ≡ self.old.attendant) × (self.new.knows_masters ≡ self.old.knows_masters)
+        ensures kept { (self.new.attendant ≡ self.old.attendant)
             × (self.new.subscriptions ≡ self.old.subscriptions) }
     {
         let start = self.responder.unsent().len();

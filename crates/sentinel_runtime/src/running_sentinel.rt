@@ -39,9 +39,6 @@ use std::marker::{Brand, PhantomData};
 use std::sync::atomic::{AtomicU64, Ordering};
 use std::sync::{Mutex, Wait};
 
-/// What stands for no reading of the clock: it is above each of them.
-const NOT_TILTED: u64 = u64::MAX;
-
 /// Which Sentinel it is; what may be said in its name, which of its notes may be told, each with how many calls stand
 /// before it; and what it may be told itself. Only proofs read it.
 pub trait Which {
@@ -73,8 +70,7 @@ impl Which for Brand {
 }
 
 /// A Sentinel of the group, which its threads share. `far` is the last request for a vote whose epoch was too far above
-/// the one that is `known`, until it is taken. `tilted` is the clock's reading since which it is in TILT, or
-/// `NOT_TILTED`.
+/// the one that is `known`, until it is taken.
 #[derive(Drop)]
 pub struct RunningSentinel<J: Which, S: ConfStore> {
     cell: SharedSentinel<S>,
@@ -84,7 +80,6 @@ pub struct RunningSentinel<J: Which, S: ConfStore> {
     known: KnownEpoch,
     far: Mutex<Option<FarRequest>>,
     halt_noted: AtomicU64,
-    tilted: AtomicU64,
     of: PhantomData<J>,
     ghost is: { cell.id ≡ J.cell },
     ghost says: { (message : Message) → IsReleased cell.start message → ∥ J.said message ∥₁ },
@@ -181,7 +176,6 @@ impl<J: Which, S: ConfStore> RunningSentinel<J, S> {
             known: KnownEpoch::none(),
             far: Mutex::new(None),
             halt_noted: AtomicU64::new(0),
-            tilted: AtomicU64::new(NOT_TILTED),
             of: PhantomData,
         };
         Ok((member, with_outbox(alloc, seat)))
@@ -242,7 +236,6 @@ impl<J: Which, S: ConfStore> RunningSentinel<J, S> {
             known: _,
             far: _,
             halt_noted: _,
-            tilted: _,
             of: _,
         } = self;
         let mut whole = seats.pop()?.into_seat();
@@ -297,7 +290,6 @@ impl<J: Which, S: ConfStore> RunningSentinel<J, S> {
         let input = Input { now, event };
         let entry = self.turn(rt, seat, &input)?;
         self.settle(&mut seat.sight, now);
-        self.note_tilt(seat.sight.is_tilted(), now);
         let outputs = seat.outbox.outputs();
         send_all::<J, O>(outlet, outputs);
         tell_all(
@@ -320,24 +312,6 @@ impl<J: Which, S: ConfStore> RunningSentinel<J, S> {
     /// Whether it is still to be noted that it is halted; a second time it isn't.
     pub(crate) fn takes_halt_note(&self) -> bool {
         self.halt_noted.swap(1, Ordering::SeqCst) == 0
-    }
-
-    /// At this reading of the clock in milliseconds it is in TILT or isn't, as the last turn saw it.
-    fn note_tilt(&self, is_tilted: bool, now: u64) {
-        if !is_tilted {
-            self.tilted.store(NOT_TILTED, Ordering::SeqCst);
-        } else if self.tilted.load(Ordering::SeqCst) == NOT_TILTED {
-            self.tilted.store(now, Ordering::SeqCst);
-        }
-    }
-
-    /// For how many milliseconds it is in TILT at this reading of the clock, as far as calls of `carry_out` saw it;
-    /// none where it isn't.
-    pub fn tilted_for(&self, now: u64) -> Option<u64> {
-        match self.tilted.load(Ordering::SeqCst) {
-            NOT_TILTED => None,
-            since => Some(now.saturating_sub(since)),
-        }
     }
 
     /// Whether its port is closed: it is halted, which a thread noted, and a halted one closes its port.

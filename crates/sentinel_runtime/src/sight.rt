@@ -81,8 +81,8 @@ impl Nearness {
 
 /// Who takes down what a thread has to know of a Sentinel at the end of a turn: what its rules noted that nobody took
 /// yet, and of which masters a campaign comes near. `is_switching` is whether a switch is under way that a client asked
-/// for, `is_tilted` whether the Sentinel is in TILT, `current` its current epoch after the last turn, and `settling`
-/// how far that has come, where it is looked after.
+/// for, `current` the Sentinel's current epoch after the last turn, and `settling` how far that has come, where it is
+/// looked after.
 #[derive(Drop)]
 pub(crate) struct Sight {
     notices: Vec<Notice>,
@@ -91,7 +91,6 @@ pub(crate) struct Sight {
     ahead: Option<(u16, u64)>,
     nearness: Nearness,
     is_switching: bool,
-    is_tilted: bool,
 }
 
 impl Sight {
@@ -107,7 +106,6 @@ impl Sight {
                 come: None,
             },
             is_switching: false,
-            is_tilted: false,
         }
     }
 
@@ -144,11 +142,6 @@ impl Sight {
         self.is_switching
     }
 
-    /// Whether the Sentinel was in TILT at the end of the last turn.
-    pub(crate) fn is_tilted(&self) -> bool {
-        self.is_tilted
-    }
-
     /// Sees whether a campaign is near, where that is wanted.
     fn see_ahead(&mut self, plan: &Plan, core: &Core) {
         if let Some((master, at)) = self.ahead {
@@ -178,7 +171,6 @@ impl Observer for Sight {
         let (plan, core) = (sentinel.plan(), sentinel.core());
         self.current = core.kept().current;
         self.is_switching = is_any_planned(plan, core);
-        self.is_tilted = core.is_tilted();
         self.see_ahead(plan, core);
         self.take_notices(sentinel);
     }

@@ -1,4 +1,4 @@
-use Rattle.courteous_sessions.proofs.StandIn.{common_found}
+use Rattle.client_commands.proofs.LineReader.{common_found}
 use Rattle.courteous_sessions.proofs.in_place.next_in_place.Goals as goal
 
 pub returns-else-may_store-clause-taken : goal.returns-else-may_store-clause-taken

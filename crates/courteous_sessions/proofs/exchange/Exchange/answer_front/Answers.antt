@@ -8,7 +8,7 @@ returns-in-Ok-clause-answered g c = λ most stream first bytes visitor is a.
     let next = c.in-Some.ensures in
     front_answered c.args.cell.now.start c.args.now most stream visitor c.in-Some.command first bytes before.attendant after.attendant before.subscriptions after.subscriptions
     before.responder.unsent.items after.responder.unsent.items before.responder.hears after.responder.hears c.args.seat.now.view c.hand_on.new.seat.view c.args.rest.now
-    c.in-Some.more.now is a c.requires.ready c.requires.direct next.taken next.within next.common next.stores_none next.shorter c.hand_on.ensures.kept.0 c.hand_on.ensures.kept.2
+    c.in-Some.more.now is a c.requires.ready c.requires.direct next.taken next.within next.common next.stores_none next.shorter c.hand_on.ensures.kept.0 c.hand_on.ensures.kept.1
     c.hand_on.ensures.told (rw c.asked_by.ensures at c.in-Ok.ensures.answered)
 
 pub returns-in-Err-clause-answered : goal.returns-in-Err-clause-answered

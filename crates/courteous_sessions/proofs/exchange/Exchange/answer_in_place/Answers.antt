@@ -23,7 +23,6 @@ loop-more-init g c =
       refl,
       refl,
       refl,
-      refl,
       λ most. (
         [],
         sym (append-nil _),
@@ -45,9 +44,8 @@ loop-more-preserved g c =
       kept.0 ∙ so_far.2,
       kept.1 ∙ so_far.3,
       kept.2 ∙ so_far.4,
-      kept.3 ∙ so_far.5,
       λ most.
-          let on = so_far.6 most in
+          let on = so_far.5 most in
           let next = c.in-Ok-Some.ensures.answered most stream before.responder.unsent.items on.0 visitor on.1 on.2 in (
             next.0,
             next.1,
@@ -60,7 +58,7 @@ pub returns-in-Ok-None-clause-kept : goal.returns-in-Ok-None-clause-kept
 returns-in-Ok-None-clause-kept g c =
     let so_far = c.loop-more.invariant in
     let kept = c.answer_front.ensures.kept in
-    (kept.0 ∙ so_far.2, kept.1 ∙ so_far.3, kept.2 ∙ so_far.4, kept.3 ∙ so_far.5)
+    (kept.0 ∙ so_far.2, kept.1 ∙ so_far.3, kept.2 ∙ so_far.4)
 
 pub returns-in-Ok-None-clause-answered : goal.returns-in-Ok-None-clause-answered
 returns-in-Ok-None-clause-answered g c = λ most.
@@ -68,7 +66,7 @@ returns-in-Ok-None-clause-answered g c = λ most.
     let after = c.answer_front.new.self in
     let stream = bytes_in before.attendant.held ++ c.args.piece.now in
     let visitor = guest_of before.attendant before.subscriptions before.responder.hears c.args.seat.now.view in
-    let on = c.loop-more.invariant.6 most in
+    let on = c.loop-more.invariant.5 most in
     let next = c.in-Ok-None.ensures.answered most stream before.responder.unsent.items on.0 visitor on.1 on.2 in (
       next.0,
       next.1,
@@ -81,11 +79,11 @@ pub returns-in-Err-clause-kept : goal.returns-in-Err-clause-kept
 returns-in-Err-clause-kept g c =
     let so_far = c.loop-more.invariant in
     let kept = c.answer_front.ensures.kept in
-    (kept.0 ∙ so_far.2, kept.1 ∙ so_far.3, kept.2 ∙ so_far.4, kept.3 ∙ so_far.5)
+    (kept.0 ∙ so_far.2, kept.1 ∙ so_far.3, kept.2 ∙ so_far.4)
 
 pub returns-in-Err-clause-answered : goal.returns-in-Err-clause-answered
 returns-in-Err-clause-answered g c = λ most.
     let before = c.args.self.now in
-    let on = c.loop-more.invariant.6 most in
+    let on = c.loop-more.invariant.5 most in
     c.in-Err.ensures.answered most (bytes_in before.attendant.held ++ c.args.piece.now) before.responder.unsent.items on.0
     (guest_of before.attendant before.subscriptions before.responder.hears c.args.seat.now.view) on.1 on.2

@@ -10,7 +10,6 @@ invariant-loop-more g l =
     (l.seat.cell ≡ l.initial.seat.cell)
     × IsReady l.self.attendant l.self.subscriptions l.self.responder.hears
     × (l.self.attendant ≡ l.initial.self.attendant)
-    × (l.self.knows_masters ≡ l.initial.self.knows_masters)
     × (l.self.subscriptions ≡ l.initial.self.subscriptions)
     × (l.self.direct ≡ l.initial.self.direct)
     × ((most : ℕ) → (more : List ℕ) × (l.self.responder.unsent.items ≡ l.initial.self.responder.unsent.items ++ more)

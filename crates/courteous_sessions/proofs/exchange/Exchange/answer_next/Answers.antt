@@ -20,14 +20,14 @@ returns-in-Ok-clause-answered g c = λ stream first bytes visitor is a.
     let taken = subst (λ (x : Attendance). TakesCommon before.attendant.held x.held command) (sym kept) c.in-Some.ensures.taken in
     step_common c.args.cell.now.start c.args.now command stream first bytes visitor before.attendant after.attendant before.subscriptions after.subscriptions before.responder.unsent.items
     after.responder.unsent.items before.responder.hears after.responder.hears c.args.seat.now.view c.tell_common.new.seat.view is a c.requires.ready taken c.in-Some.ensures.common.0 c.in-Some.ensures.plain
-    (ap (λ (x : Attendance). x.asker) kept ∙ c.next_common.ensures.asker) (c.tell_common.ensures.kept.2 ∙ c.next_common.ensures.kept.1)
+    (ap (λ (x : Attendance). x.asker) kept ∙ c.next_common.ensures.asker) (c.tell_common.ensures.kept.1 ∙ c.next_common.ensures.kept)
     (c.tell_common.ensures.told ∙ ap (λ (t : Hearing). t.told) c.next_common.ensures.hears)
     (rw (c.next_common.ensures.hears, c.next_common.ensures.unsent, c.next_common.ensures.asker) at c.in-Ok.ensures.answered)
 
 pub returns-in-None-clause-answered : goal.returns-in-None-clause-answered
 returns-in-None-clause-answered g c =
     let same = c.next_common.ensures.left c.in-None.is in
-    rw (same, c.next_common.ensures.hears, c.next_common.ensures.unsent, c.next_common.ensures.kept.1) at c.answer_any.ensures.answered
+    rw (same, c.next_common.ensures.hears, c.next_common.ensures.unsent, c.next_common.ensures.kept) at c.answer_any.ensures.answered
 
 pub returns-in-Err-clause-answered : goal.returns-in-Err-clause-answered
 returns-in-Err-clause-answered g c = λ stream first bytes visitor is a.

@@ -30,7 +30,7 @@ returns-in-Ok-clause-answered g c = λ most stream first bytes visitor is a.
     in
     common_within c.args.cell.now.start c.args.now most stream visitor command first bytes before.attendant after.attendant before.subscriptions after.subscriptions
     before.responder.unsent.items after.responder.unsent.items before.responder.hears after.responder.hears c.args.seat.now.view c.tell_common.new.seat.view c.args.limit.now.most limit.most limit.mark is a
-    c.requires.ready there (ap (λ (x : Attendance). x.asker) kept ∙ c.next_within.ensures.asker) (c.tell_common.ensures.kept.2 ∙ c.next_within.ensures.kept.1)
+    c.requires.ready there (ap (λ (x : Attendance). x.asker) kept ∙ c.next_within.ensures.asker) (c.tell_common.ensures.kept.1 ∙ c.next_within.ensures.kept)
     (c.tell_common.ensures.told ∙ ap (λ (t : Hearing). t.told) c.next_within.ensures.hears)
     (rw (c.next_within.ensures.hears, c.next_within.ensures.unsent, c.next_within.ensures.asker) at c.in-Ok.ensures.answered)
 
@@ -61,7 +61,7 @@ returns-in-Ok-tell_value-clause-answered g c = λ most stream first bytes visito
     value_within c.args.cell.now.start c.args.now most stream visitor c.in-Ok-Any.value first bytes before.attendant mid.attendant after.attendant before.subscriptions
     after.subscriptions before.responder.unsent.items after.responder.unsent.items before.responder.hears after.responder.hears c.args.seat.now.view c.tell_value.new.seat.view c.args.limit.now.most limit.most limit.mark
     is a c.requires.ready (rw c.in-Ok-Any.field-0-is at c.in-Ok-Any.ensures.ahead) c.next_within.ensures.asker c.in-Ok-tell_value.ensures.held
-    (rw (c.next_within.ensures.hears, c.next_within.ensures.unsent, c.next_within.ensures.kept.1) at c.in-Ok-tell_value.ensures.served)
+    (rw (c.next_within.ensures.hears, c.next_within.ensures.unsent, c.next_within.ensures.kept) at c.in-Ok-tell_value.ensures.served)
 
 pub returns-in-Ok-Any-clause-answered : goal.returns-in-Ok-Any-clause-answered
 returns-in-Ok-Any-clause-answered g c = λ most stream first bytes visitor is a.
@@ -81,7 +81,7 @@ returns-in-Ok-Short-clause-answered g c = λ most stream first bytes visitor is 
       c.next_within.ensures.unsent ∙ is,
       subst (λ (h : Guest). Stops c.args.cell.now.start c.args.now most stream visitor Done mid.attendant.held bytes h)
           (guest_same before.attendant mid.attendant before.subscriptions mid.subscriptions before.responder.hears mid.responder.hears c.args.seat.now.view c.next_within.ensures.asker
-          c.next_within.ensures.kept.1 c.next_within.ensures.hears)
+          c.next_within.ensures.kept c.next_within.ensures.hears)
           (finished c.args.cell.now.start c.args.now most stream visitor c.args.limit.now.most before.attendant.held mid.attendant.held bytes
           (guest_of before.attendant before.subscriptions before.responder.hears c.args.seat.now.view) a (rw c.in-Ok-Short.field-0-is at c.in-Ok-Short.ensures.ahead)),
     )

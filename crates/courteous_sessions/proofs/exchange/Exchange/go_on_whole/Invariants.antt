@@ -5,12 +5,11 @@ use Rattle.courteous_sessions.specs.OnTheWay.{IsReady, guest_of}
 use Rattle.courteous_sessions.specs.GoingOn.{IsWithin}
 use Rattle.courteous_sessions.proofs.exchange.Exchange.go_on_whole.Given as goal
 
--- the session below is ready, the limit stands where the next value begins, and what was within it is so still, with more answers
+-- the responder is ready, the limit stands where the next value begins, and what was within it is so still, with more answers
 abbrev pub invariant-loop-self : goal.invariant-loop-self
 invariant-loop-self g l =
     (l.seat.cell ≡ l.initial.seat.cell)
     × IsReady l.self.attendant l.self.subscriptions l.self.responder.hears
-    × (l.self.knows_masters ≡ l.initial.self.knows_masters)
     × (l.limit.mark ≡ l.self.attendant.held)
     × ((most : ℕ) (stream before bytes : List ℕ) (visitor : Guest) → l.initial.self.responder.unsent.items ≡ before ++ bytes
     → IsWithin l.fn.cell.start l.fn.now most stream visitor l.initial.limit.most l.initial.self.attendant.held bytes

@@ -25,7 +25,7 @@ returns-in-Ok-go_on_whole-clause-answered g c = λ stream first bytes visitor is
     c.in-Ok-go_on_whole.ensures.answered c.args.most stream first bytes visitor (c.feed_within.ensures.unsent ∙ is)
     (fed_alike (λ (n : ℕ) (h : Held) (m : Guest). IsWithin c.args.cell.now.start c.args.now c.args.most stream visitor n h bytes m) c.args.most c.in-Ok.limit.most before.attendant
     fed.attendant before.subscriptions fed.subscriptions before.responder.hears fed.responder.hears c.args.rest.now c.args.seat.now.view c.in-Ok.ensures.limit.1 c.in-Ok.ensures.fed
-    c.feed_within.ensures.asker c.feed_within.ensures.kept.1 c.feed_within.ensures.hears a)
+    c.feed_within.ensures.asker c.feed_within.ensures.kept c.feed_within.ensures.hears a)
 
 pub returns-clause-answered : goal.returns-clause-answered
 returns-clause-answered g c = λ stream first bytes visitor is a.
@@ -34,4 +34,4 @@ returns-clause-answered g c = λ stream first bytes visitor is a.
     c.in-Err.ensures.answered c.args.most stream first bytes visitor (c.feed_within.ensures.unsent ∙ is)
     (fed_alike (λ (n : ℕ) (h : Held) (m : Guest). IsWithin c.args.cell.now.start c.args.now c.args.most stream visitor n h bytes m) c.args.most c.in-Ok.limit.most before.attendant
     fed.attendant before.subscriptions fed.subscriptions before.responder.hears fed.responder.hears c.args.rest.now c.args.seat.now.view c.in-Ok.ensures.limit.1 c.in-Ok.ensures.fed
-    c.feed_within.ensures.asker c.feed_within.ensures.kept.1 c.feed_within.ensures.hears a)
+    c.feed_within.ensures.asker c.feed_within.ensures.kept c.feed_within.ensures.hears a)

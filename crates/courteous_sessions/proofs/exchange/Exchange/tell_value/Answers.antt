@@ -33,7 +33,7 @@ returns-in-Three-clause-served g c =
     (λ told.
     tells_in_three c.args.cell.now.start c.args.now (guest_of before.attendant before.subscriptions before.responder.hears c.args.seat.now.view) mid.attendant after.attendant
     mid.subscriptions after.subscriptions mid.responder.hears after.responder.hears c.answer_value.new.seat.view (view c.args.value.now) before.responder.unsent.items mid.responder.unsent.items
-    after.responder.unsent.items (length c.unsent-start.result.now) (ap length c.unsent-start.ensures) (sym c.protocol.ensures ∙ c.in-Three.is) c.retell.ensures.attendant c.retell.ensures.kept.1 c.retell.ensures.hears
+    after.responder.unsent.items (length c.unsent-start.result.now) (ap length c.unsent-start.ensures) (sym c.protocol.ensures ∙ c.in-Three.is) c.retell.ensures.attendant c.retell.ensures.kept c.retell.ensures.hears
     c.in_ok-answer_value.ensures.served told)
     (subst (λ (shape : Shape). OnOk c.retell.result
     (JoinsTold Three shape (drop (length c.unsent-start.result.now) mid.responder.unsent.items) (take (length c.unsent-start.result.now) mid.responder.unsent.items) after.responder.unsent.items))
