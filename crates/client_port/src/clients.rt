@@ -335,7 +335,7 @@ impl Clients {
         };
         let began = state.clock.now(rt);
         self.reading = began;
-        self.roll.count(&*self.seats, member, began);
+        self.roll.count(&*self.seats, began);
         self.roll.swap(connection);
         let is_whole = connection.turn(rt, state, member, seat, began);
         self.roll.swap(connection);

@@ -110,12 +110,7 @@ impl Roll {
     }
 
     /// What the port counts at this reading of the clock.
-    pub(crate) fn count<J: Which, S: ConfStore>(
-        &mut self,
-        seats: &Seats,
-        member: &RunningSentinel<J, S>,
-        now: u64,
-    ) {
+    pub(crate) fn count(&mut self, seats: &Seats, now: u64) {
         if !self.is_kept {
             return;
         }

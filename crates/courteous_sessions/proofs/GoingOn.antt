@@ -13,7 +13,8 @@ use Rattle.sentinel_core.specs.Serving.Serving.{last_line}
 use Rattle.port_sessions.specs.declared.limit.Reach.{Reach}
 use Rattle.port_sessions.specs.declared.limit.Reach.TheVariants.{Done, Waits}
 use Rattle.port_sessions.specs.Stores.{may_store, one_if}
-use Rattle.port_sessions.specs.Talks.{Talk, party}
+use Rattle.port_sessions.specs.declared.hearing.Hearing.{Hearing}
+use Rattle.port_sessions.specs.Talks.{party}
 use Rattle.ballot_law.specs.declared.commands.Command.{Command}
 use Rattle.resp2.specs.Asked.{IsCommon}
 use Rattle.resp2.specs.Commands.{redis_command_of}
@@ -29,8 +30,9 @@ use Rattle.sentinel_cell.specs.declared.view.View.{View}
 use Rattle.sentinel_cell.specs.Histories.{World}
 use Rattle.courteous_sessions.specs.Epochs.{heard_as}
 use Rattle.courteous_sessions.specs.Stores.{value_may_store, stores_among, IsStoreNext}
-use Rattle.courteous_sessions.specs.Visits.{Guest, guest, introduced, IsUnanswered, Tells}
-use Rattle.courteous_sessions.specs.OnTheWay.{IsIdle, IsReady, IsOnTheWay, RespondsIn, Refuses, guest_of}
+use Rattle.courteous_sessions.specs.Visits.{Guest, guest, IsUnanswered, Tells}
+use Rattle.port_sessions.specs.OnTheWay.{Refuses}
+use Rattle.courteous_sessions.specs.OnTheWay.{IsReady, IsOnTheWay, RespondsIn, guest_of}
 use Rattle.courteous_sessions.specs.GoingOn.{IsWithin, IsCommonAhead, IsValueAhead, Stops, StepsWithin, DrainsWithin, BreaksWithin, GoesOn}
 use Rattle.courteous_sessions.proofs.Serving.{was_read, serves-push, shows_fault}
 use Rattle.courteous_sessions.proofs.Stepping.{common_tells}
@@ -97,12 +99,12 @@ common_is_next command more held mark after left stands taken waits = (
   },
 )
 
-pub guest_same : (before mid : Attendance) (l same_l : Listening) (talk same : Talk) (v : View) → mid.asker ≡ before.asker → same_l ≡ l → same ≡ talk
-    → guest_of before l talk v ≡ guest_of mid same_l same v
-guest_same before mid l same_l talk same v a b c =
-    ap (λ (x : ClientInfo). guest (party v talk.listens) l talk.told x) (sym a)
-    ∙ ap (λ (x : Listening). guest (party v talk.listens) x talk.told mid.asker) (sym b)
-    ∙ ap (λ (t : Talk). guest (party v t.listens) same_l t.told mid.asker) (sym c)
+pub guest_same : (before mid : Attendance) (l same_l : Listening) (hearing same : Hearing) (v : View) → mid.asker ≡ before.asker → same_l ≡ l → same ≡ hearing
+    → guest_of before l hearing v ≡ guest_of mid same_l same v
+guest_same before mid l same_l hearing same v a b c =
+    ap (λ (x : ClientInfo). guest (party v hearing.listens) l hearing.told x) (sym a)
+    ∙ ap (λ (x : Listening). guest (party v hearing.listens) x hearing.told mid.asker) (sym b)
+    ∙ ap (λ (t : Hearing). guest (party v t.listens) same_l t.told mid.asker) (sym c)
 
 -- ---- how many values may store
 
@@ -138,44 +140,44 @@ module _ (start : World) (now : ℕ) (most : ℕ) (stream : List ℕ) (g : Guest
       }
 
   -- it was a command that comes nearly always
-  pub common_within : (command : Command) (first bytes : List ℕ) (before after : Attendance) (l later_l : Listening) (unsent put : List ℕ) (talk later : Talk) (v w : View)
-      (more fewer : ℕ) (mark : Held) → unsent ≡ first ++ bytes → IsWithin start now most stream g more before.held bytes (guest_of before l talk v) → IsReady before l talk
-      → IsCommonAhead before.asker l more before.held command fewer mark after.held → after.asker ≡ before.asker → later_l ≡ l → later.told ≡ talk.told
-      → (text : List ℕ) × (put ≡ unsent ++ text) × IsIdle later
-      × RespondsIn start now before.asker.protocol (party v talk.listens) (heard_as before.asker.current (Ok command)) text (party w later.listens)
+  pub common_within : (command : Command) (first bytes : List ℕ) (before after : Attendance) (l later_l : Listening) (unsent put : List ℕ) (hearing later : Hearing) (v w : View)
+      (more fewer : ℕ) (mark : Held) → unsent ≡ first ++ bytes → IsWithin start now most stream g more before.held bytes (guest_of before l hearing v) → IsReady before l hearing
+      → IsCommonAhead before.asker l more before.held command fewer mark after.held → after.asker ≡ before.asker → later_l ≡ l → later.told ≡ hearing.told
+      → (text : List ℕ) × (put ≡ unsent ++ text)
+      × RespondsIn start now before.asker.protocol (party v hearing.listens) (heard_as before.asker.current (Ok command)) text (party w later.listens)
       → (text : List ℕ) × (put ≡ first ++ text) × IsWithin start now most stream g fewer after.held text (guest_of after later_l later w)
-  common_within command first bytes before after l later_l unsent put talk later v w more fewer mark is a ready ahead asker same told got =
+  common_within command first bytes before after l later_l unsent put hearing later v w more fewer mark is a ready ahead asker same told got =
       let taken = ahead.taken in
       let value = taken.value in
-      let tells = common_tells start now before.asker.protocol command before after l talk later v w value got.0 ready ahead.common ahead.known ahead.quiet refl taken.asked asker
-      told got.3 in
-      let there = subst (λ (x : Listening). Tells start now (guest_of before l talk v) value got.0 (guest_of after x later w)) (sym same) tells in
+      let tells = common_tells start now before.asker.protocol command before after l hearing later v w value got.0 ready ahead.common ahead.known ahead.quiet refl taken.asked asker
+      told got.2 in
+      let there = subst (λ (x : Listening). Tells start now (guest_of before l hearing v) value got.0 (guest_of after x later w)) (sym same) tells in
       let found = ap value_at (ap bytes_in taken.held_is) ∙ taken.found in (
         bytes ++ got.0,
         got.1 ∙ ap (λ (t : List ℕ). t ++ got.0) is ∙ append_assoc first bytes got.0,
-        served_within more fewer before.held after.held bytes (guest_of before l talk v) value taken.rest got.0 (guest_of after later_l later w) a found taken.left
+        served_within more fewer before.held after.held bytes (guest_of before l hearing v) value taken.rest got.0 (guest_of after later_l later w) a found taken.left
             (stores_too value command more fewer (known_too value command taken.asked) ahead.counts) there,
       )
 
   -- it was any value
-  pub value_within : (value : Value) (first bytes : List ℕ) (before between after : Attendance) (l later_l : Listening) (unsent put : List ℕ) (talk later : Talk) (v w : View)
-      (more fewer : ℕ) (mark : Held) → unsent ≡ first ++ bytes → IsWithin start now most stream g more before.held bytes (guest_of before l talk v) → IsReady before l talk
+  pub value_within : (value : Value) (first bytes : List ℕ) (before between after : Attendance) (l later_l : Listening) (unsent put : List ℕ) (hearing later : Hearing) (v w : View)
+      (more fewer : ℕ) (mark : Held) → unsent ≡ first ++ bytes → IsWithin start now most stream g more before.held bytes (guest_of before l hearing v) → IsReady before l hearing
       → IsValueAhead more before.held value fewer mark between.held → between.asker ≡ before.asker → after.held ≡ between.held
       → (text : List ℕ) × (put ≡ unsent ++ text) × IsReady after later_l later
-      × Tells start now (guest_of between l talk v) (view value) text (guest_of after later_l later w)
+      × Tells start now (guest_of between l hearing v) (view value) text (guest_of after later_l later w)
       → (text : List ℕ) × (put ≡ first ++ text) × IsWithin start now most stream g fewer after.held text (guest_of after later_l later w)
-  value_within value first bytes before between after l later_l unsent put talk later v w more fewer mark is a ready ahead asker held got =
+  value_within value first bytes before between after l later_l unsent put hearing later v w more fewer mark is a ready ahead asker held got =
       let at = was_read view before.held value between.held ready.reads ahead.given in
-      let same : guest_of between l talk v ≡ guest_of before l talk v = ap (λ (x : ClientInfo). guest (party v talk.listens) l talk.told x) asker in
+      let same : guest_of between l hearing v ≡ guest_of before l hearing v = ap (λ (x : ClientInfo). guest (party v hearing.listens) l hearing.told x) asker in
       let tells = subst (λ (x : Guest). Tells start now x (view value) got.0 (guest_of after later_l later w)) same got.3 in (
         bytes ++ got.0,
         got.1 ∙ ap (λ (t : List ℕ). t ++ got.0) is ∙ append_assoc first bytes got.0,
-        served_within more fewer before.held after.held bytes (guest_of before l talk v) (view value) at.0 got.0 (guest_of after later_l later w) a at.1 (held ∙ at.2) ahead.counts
+        served_within more fewer before.held after.held bytes (guest_of before l hearing v) (view value) at.0 got.0 (guest_of after later_l later w) a at.1 (held ∙ at.2) ahead.counts
             tells,
       )
 
   -- a growth was refused before the next value
-  memory_cut : (more : ℕ) (held : Held) (bytes : List ℕ) (m : Guest) (fault : ServeFault) → IsWithin start now most stream g more held bytes m → fault ≡ OutOfMemory
+  pub memory_cut : (more : ℕ) (held : Held) (bytes : List ℕ) (m : Guest) (fault : ServeFault) → IsWithin start now most stream g more held bytes m → fault ≡ OutOfMemory
       → BreaksWithin start now most stream g fault bytes m.party.view
   memory_cut more held bytes m fault a is =
       let so_far = a.so_far in
@@ -329,29 +331,3 @@ module _ (start : World) (now : ℕ) (most : ℕ) (stream : List ℕ) (g : Guest
 pub first_within : (start : World) (now most : ℕ) (stream : List ℕ) (held : Held) (g : Guest) → held ≡ reading stream → IsWithin start now most stream g most held [] g
 first_within start now most stream held g is =
     record { so_far = record { values = []; rest = stream; held_is = is; parts = refl; answers = (refl, refl) }; count = omega arith }
-
--- all that may be answered of a piece was
-pub piece_within : (start : World) (now most limit : ℕ) (answer : Result Reach ServeFault) (before known fed after : Attendance) (l same_l later_l : Listening) (knows : Bool)
-    (piece : List ℕ) (unsent kept out : List ℕ) (talk same later : Talk) (v w : View)
-    → known ≡ record before { asker = introduced start knows before.asker } → fed.asker ≡ known.asker → fed.held ≡ reading (bytes_in known.held ++ piece) → limit ≡ most
-    → kept ≡ unsent → same ≡ talk → same_l ≡ l
-    → ((most : ℕ) (stream first bytes : List ℕ) (g : Guest) → kept ≡ first ++ bytes → IsWithin start now most stream g limit fed.held bytes (guest_of fed same_l same v)
-    → (more : List ℕ) × (out ≡ first ++ more) × DrainsWithin start now most stream g answer after.held more (guest_of after later_l later w))
-    → (more : List ℕ) × (out ≡ unsent ++ more)
-    × GoesOn start now most (bytes_in before.held ++ piece) (guest (party v talk.listens) l talk.told (introduced start knows before.asker)) answer (bytes_in after.held) more
-    (guest_of after later_l later w)
-piece_within start now most limit answer before known fed after l same_l later_l knows piece unsent kept out talk same later v w is_known asker held counts is_kept is_same is_l
-    drains =
-    let g = guest (party v talk.listens) l talk.told (introduced start knows before.asker) in
-    let stream = bytes_in before.held ++ piece in
-    let there : fed.held ≡ reading stream = held ∙ ap (λ (a : Attendance). reading (bytes_in a.held ++ piece)) is_known in
-    let first = first_within start now most stream fed.held g there in
-    let met : introduced start knows before.asker ≡ fed.asker = sym (asker ∙ ap (λ (a : Attendance). a.asker) is_known) in
-    let at_limit = subst (λ (n : ℕ). IsWithin start now most stream g n fed.held [] g) (sym counts) first in
-    let at_l = subst (λ (x : Listening). IsWithin start now most stream g limit fed.held [] (guest (party v talk.listens) x talk.told (introduced start knows before.asker)))
-    (sym is_l) at_limit
-    in
-    let met_there = subst (λ (x : ClientInfo). IsWithin start now most stream g limit fed.held [] (guest (party v talk.listens) same_l talk.told x)) met at_l in
-    let begins = subst (λ (t : Talk). IsWithin start now most stream g limit fed.held [] (guest (party v t.listens) same_l t.told fed.asker)) (sym is_same) met_there in
-    let got = drains most stream unsent [] g (is_kept ∙ sym (append-nil unsent)) begins in
-    (got.0, got.1, was_taken start now most stream g answer after.held got.0 (guest_of after later_l later w) got.2)

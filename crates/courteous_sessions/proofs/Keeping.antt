@@ -12,7 +12,7 @@ use Rattle.pubsub.proofs.Sounding.{untold}
 use Rattle.port_sessions.specs.Listening.{note_text}
 use Rattle.ballot_law.specs.declared.commands.Command.{Command}
 use Rattle.ballot_law.specs.declared.commands.Command.TheVariants.{Ping, IsMasterDownByAddr, GetMasterAddrByName, Masters, Master, Replicas, Sentinels, MyId, CkQuorum, Failover, FlushConfig, Subscribe, Info}
-use Rattle.client_commands.specs.Courtesies.{is_stranger, ClientInfo, Answer, left, said, asks_masters, silent, asks_nothing, courtesy, kind_of}
+use Rattle.client_commands.specs.Courtesies.{is_stranger, ClientInfo, Answer, left, said, asks_info, silent, asks_nothing, courtesy, kind_of}
 use Rattle.client_commands.specs.declared.courtesies.Courtesy.TheVariants.{Said}
 use Rattle.client_commands.proofs.Strangers.{strangers_are_answered}
 use Rattle.client_commands.proofs.OwnValues.{own_is_left, own_is_same}
@@ -24,6 +24,7 @@ use Rattle.resp2.specs.Commands.{command_of, redis_command_of}
 use Rattle.resp2.proofs.Switches.{known_too}
 use Rattle.resp2.specs.Framing.Frame.{Frame, FrameList, no_frames, spellings}
 use Rattle.sentinel_cell.specs.Histories.{World}
+use Rattle.sentinel_rules.specs.Plans.{roster_of}
 use Rattle.courteous_sessions.specs.Visits.{Guest, guest, switches, turn_in, channel_turn, Answers, Serves, ServesBy, ServesBesideBy, ServesBeside, ServesIn}
 use Rattle.courteous_sessions.specs.declared.shapes.Shape.{Shape}
 use Rattle.courteous_sessions.specs.declared.shapes.Shape.TheVariants.{Plain, Pushes}
@@ -123,10 +124,10 @@ common_shape value command common is =
 
 pub common_answers : (start : World) (now : ℕ) (asker : ClientInfo) (value : Frame) (command : Command) (p : Party) (bytes : List ℕ) (q : Party) → IsCommon command
     → is_stranger asker ≡ false → command_of value ≡ Ok command → Responds start now p (heard_as asker.current (Ok command)) bytes q
-    → Answers start now asker (courtesy asker value) p value bytes q
+    → Answers start now asker (courtesy (roster_of start.plan) asker value) p value bytes q
 common_answers start now asker value command p bytes q common known is h =
     let too = known_too value command is in
-    let becomes = own_is_left asker value command known too in
+    let becomes = own_is_left (roster_of start.plan) asker value command known too in
     subst (λ (a : Answer). Answers start now asker a p value bytes q) (sym becomes)
     (subst (λ (k : Result Command CommandFault). Responds start now p (heard_as asker.current k) bytes q) (sym too) h)
 
@@ -149,7 +150,7 @@ own_as_before start now g h value command bytes speaks known quiet differs is te
     let by = by_others start now g h value tells.0 none serves in
     let q = by.0 in
     let at = sym (ap (λ (x : Guest). x.party) by.2) in
-    let becomes = own_is_left g.asker value command known is in
+    let becomes = own_is_left (roster_of start.plan) g.asker value command known is in
     let kept = subst (λ (a : Answer). Answers start now g.asker a g.party value tells.0 q) becomes by.1 in
     let answered = subst (λ (k : Result Command CommandFault). Responds start now g.party (heard_as g.asker.current k) tells.0 q) is kept in
     let after : h ≡ guest q g.listening g.told g.asker = by.2 ∙ ap (λ (a : ClientInfo). guest q g.listening g.told a) (own_is_same g.asker value command is) in
@@ -173,7 +174,7 @@ own_in_three start now g h value command bytes speaks known differs is tells =
     let by = beside start now g h value tells.0 speaks none tells.1 in
     let q = by.0 in
     let p = party g.party.view None in
-    let becomes = own_is_left g.asker value command known is in
+    let becomes = own_is_left (roster_of start.plan) g.asker value command known is in
     let kept = subst (λ (a : Answer). Answers start now g.asker a p value tells.0 q) becomes by.1 in
     let answered = subst (λ (k : Result Command CommandFault). Responds start now p (heard_as g.asker.current k) tells.0 q) is kept in
     let after : h ≡ guest (party q.view g.party.listens) g.listening g.told g.asker =
@@ -215,7 +216,7 @@ listeners_answered start now g h value command bytes speaks known listens is tel
 -- a courtesy that is told, or is silent, is answered by that alone, and the seat sees nothing
 abbrev Seen : (start : World) (now : ℕ) → Guest → Frame → (answer : List ℕ) → Guest → Type 0
 Seen start now g value answer h =
-    (p : Party) × (q : Party) × Answers start now g.asker (courtesy g.asker value) p value answer q × ((q ≡ p) → h.party ≡ g.party) × (h.listening ≡ g.listening)
+    (p : Party) × (q : Party) × Answers start now g.asker (courtesy (roster_of start.plan) g.asker value) p value answer q × ((q ≡ p) → h.party ≡ g.party) × (h.listening ≡ g.listening)
 
 seen_by : (protocol : Protocol) (start : World) (now : ℕ) (g h : Guest) (value : Frame) (answer : List ℕ) → channel_turn g.asker g.listening value ≡ other
     → ServesIn start now protocol g value answer h → Seen start now g value answer h
@@ -249,14 +250,14 @@ said_is_seen : (start : World) (now : ℕ) (asker : ClientInfo) (answer : Answer
     → Answers start now asker answer p value bytes q → q ≡ p
 said_is_seen start now asker left p value bytes q is h = absurd (let no : ⊥ = cc in no)
 said_is_seen start now asker (said answer) p value bytes q is h = h.1
-said_is_seen start now asker asks_masters p value bytes q is h = absurd (let no : ⊥ = cc in no)
+said_is_seen start now asker asks_info p value bytes q is h = absurd (let no : ⊥ = cc in no)
 said_is_seen start now asker silent p value bytes q is h = h.1
 
 pub strangers_take_no_turn : StrangersTakeNoTurn
 strangers_take_no_turn start now g h value bytes stranger tells =
     let none = ap (λ (b : Bool). elim b as (λ _. ChannelAnswer) [ true ↦ other | false ↦ turn_in g.asker.protocol g.listening value ]) stranger in
     let seen = seen_by g.asker.protocol start now g h value tells.0 none tells.1 in
-    (seen.3 (said_is_seen start now g.asker (courtesy g.asker value) seen.0 value tells.0 seen.1 (strangers_are_answered g.asker value stranger) seen.2), seen.4)
+    (seen.3 (said_is_seen start now g.asker (courtesy (roster_of start.plan) g.asker value) seen.0 value tells.0 seen.1 (strangers_are_answered (roster_of start.plan) g.asker value stranger) seen.2), seen.4)
 
 -- ---- what is told
 

@@ -11,3 +11,4 @@ pub mod GoingOn
 pub mod Values
 pub mod Losing
 pub mod OwnWords
+pub mod InPlace

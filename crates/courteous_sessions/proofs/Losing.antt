@@ -2,11 +2,11 @@
 use Rattle.std.proofs.Common.{◌≡◌, ◌⊎◌, ◌∙◌, ℕ, Bool, true, false, List, Option, Some, None, Result, Ok, Err, refl, sym, ap, subst, inl, inr}
 use Rattle.std.specs.Prelude.{OnErr, IfErr}
 use Rattle.ballot_law.specs.declared.commands.Command.{Command}
-use Rattle.ballot_law.specs.declared.commands.Command.TheVariants.{Masters, Subscribe}
+use Rattle.ballot_law.specs.declared.commands.Command.TheVariants.{Info, Subscribe}
 use Rattle.pubsub.specs.Answering.{Answer as ChannelAnswer, other, said as confirmed}
 use Rattle.client_commands.specs.declared.protocols.Protocol.{Protocol}
 use Rattle.client_commands.specs.declared.protocols.Protocol.TheVariants.{Two, Three}
-use Rattle.client_commands.specs.Courtesies.{ClientInfo, Answer, left, said, asks_masters, silent, courtesy}
+use Rattle.client_commands.specs.Courtesies.{ClientInfo, Answer, left, said, asks_info, silent, courtesy}
 use Rattle.sentinel_core.specs.declared.serving.fault.ServeFault.{ServeFault}
 use Rattle.sentinel_core.specs.declared.serving.fault.ServeFault.TheVariants.{Halted, NoMemory}
 use Rattle.port_sessions.specs.Talks.{Party, party}
@@ -15,9 +15,10 @@ use Rattle.resp2.specs.declared.command.CommandFault.{CommandFault}
 use Rattle.resp2.specs.Framing.Frame.{Frame}
 use Rattle.sentinel_cell.specs.declared.view.View.{View}
 use Rattle.sentinel_cell.specs.Histories.{World}
+use Rattle.sentinel_rules.specs.Plans.{roster_of}
 use Rattle.courteous_sessions.specs.Epochs.{heard_as}
 use Rattle.courteous_sessions.specs.Visits.{Guest, hears_switches, channel_turn, Tunes, Answers, ServesBy, ServesBesideBy, ServesIn, FailsAt, IsUnanswered}
-use Rattle.courteous_sessions.proofs.Values.{unput_at, by_own, by_masters, by_subscribe, unasked}
+use Rattle.courteous_sessions.proofs.Values.{unput_at, by_own, by_info, by_subscribe, unasked}
 
 module _ (start : World) (now : ℕ) where
   -- nothing was asked of the seat
@@ -29,7 +30,7 @@ module _ (start : World) (now : ℕ) where
   answers_lost asker left p value bytes q h =
       by_own start now value asker.current (heard_as asker.current (redis_command_of value)) p.view q.view NoMemory refl (p.listens, q.listens, inr (bytes, h))
   answers_lost asker (said answer) p value bytes q h = same_view value p.view q.view (ap (λ (x : Party). x.view) h.1)
-  answers_lost asker asks_masters p value bytes q h = by_masters start now value p.view q.view NoMemory (p.listens, q.listens, inr (h.answer, h.turned))
+  answers_lost asker asks_info p value bytes q h = by_info start now value p.view q.view NoMemory (p.listens, q.listens, inr (h.answer, h.turned))
   answers_lost asker silent p value bytes q h = same_view value p.view q.view (ap (λ (x : Party). x.view) h.1)
 
   -- the session below was to listen to notes, or to nothing
@@ -41,7 +42,7 @@ module _ (start : World) (now : ℕ) where
   by_lost : (t : ChannelAnswer) (g : Guest) (value : Frame) (bytes : List ℕ) (h : Guest) → ServesBy start now t g value bytes h
       → IsUnanswered start now g.party.view value NoMemory h.party.view
   by_lost other g value bytes h s =
-      subst (λ (x : Guest). IsUnanswered start now g.party.view value NoMemory x.party.view) (sym s.2) (answers_lost g.asker (courtesy g.asker value) g.party value bytes s.0 s.1)
+      subst (λ (x : Guest). IsUnanswered start now g.party.view value NoMemory x.party.view) (sym s.2) (answers_lost g.asker (courtesy (roster_of start.plan) g.asker value) g.party value bytes s.0 s.1)
   by_lost (confirmed answers after) g value bytes h s =
       subst (λ (x : Guest). IsUnanswered start now g.party.view value NoMemory x.party.view) (sym s.3)
       (by_subscribe start now value g.party.view s.0.view NoMemory (tunes_lost (hears_switches after) g.party.view g.party.listens s.0 s.1))
@@ -50,7 +51,7 @@ module _ (start : World) (now : ℕ) where
       → IsUnanswered start now g.party.view value NoMemory h.party.view
   beside_lost other g value bytes h s =
       subst (λ (x : Guest). IsUnanswered start now g.party.view value NoMemory x.party.view) (sym s.2)
-      (answers_lost g.asker (courtesy g.asker value) (party g.party.view None) value bytes s.0 s.1)
+      (answers_lost g.asker (courtesy (roster_of start.plan) g.asker value) (party g.party.view None) value bytes s.0 s.1)
   beside_lost (confirmed answers after) g value bytes h s = by_lost (confirmed answers after) g value bytes h s
 
   pub served_lost : (protocol : Protocol) (g : Guest) (value : Frame) (bytes : List ℕ) (h : Guest) → ServesIn start now protocol g value bytes h
@@ -65,11 +66,11 @@ module _ (start : World) (now : ℕ) where
   own_lost (Ok x) value current asked v w is h = tt
   own_lost (Err f) value current asked v w is h = (h.0, by_own start now value current asked v w f is h.1)
 
-  pub masters_lost : {X : Type 0} (answer : Result X ServeFault) (value : Frame) (v w : View)
-      → IfErr answer (λ fault. ((fault ≡ Halted) ⊎ (fault ≡ NoMemory)) × FailsAt start now v (Ok Masters) fault w)
+  pub info_lost : {X : Type 0} (answer : Result X ServeFault) (value : Frame) (v w : View)
+      → IfErr answer (λ fault. ((fault ≡ Halted) ⊎ (fault ≡ NoMemory)) × FailsAt start now v (Ok Info) fault w)
       → IfErr answer (λ fault. ((fault ≡ Halted) ⊎ (fault ≡ NoMemory)) × IsUnanswered start now v value fault w)
-  masters_lost (Ok x) value v w h = tt
-  masters_lost (Err f) value v w h = (h.0, by_masters start now value v w f h.1)
+  info_lost (Ok x) value v w h = tt
+  info_lost (Err f) value v w h = (h.0, by_info start now value v w f h.1)
 
   pub said_lost : {X : Type 0} (answer : Result X ServeFault) (value : Frame) (v : View) → IfErr answer (λ fault. fault ≡ NoMemory)
       → IfErr answer (λ fault. ((fault ≡ Halted) ⊎ (fault ≡ NoMemory)) × IsUnanswered start now v value fault v)

@@ -12,14 +12,15 @@ use Rattle.client_commands.specs.Attendants.{Attendance}
 use Rattle.client_commands.specs.declared.protocols.Protocol.{Protocol}
 use Rattle.client_commands.specs.declared.protocols.Protocol.TheVariants.{Two}
 use Rattle.client_commands.proofs.Strangers.{strangers_are_answered}
-use Rattle.client_commands.specs.Courtesies.{is_stranger, ClientInfo, Answer, left, said, asks_masters, silent, courtesy, asker_after, kind_of}
+use Rattle.client_commands.specs.Courtesies.{is_stranger, ClientInfo, Answer, left, said, asks_info, silent, courtesy, asker_after, kind_of}
 use Rattle.client_commands.specs.declared.courtesies.Courtesy.TheVariants.{Said}
 use Rattle.client_commands.specs.Lines.{value_at, Answers as Reads}
 use Rattle.client_commands.proofs.LineStreams.{reads_next}
 use Rattle.sentinel_core.specs.declared.serving.fault.ServeFault.{ServeFault}
 use Rattle.sentinel_core.specs.declared.serving.fault.ServeFault.TheVariants.{Halted as ServeHalted, NoMemory as OutOfMemory}
 use Rattle.sentinel_core.specs.Serving.Serving.{last_line}
-use Rattle.port_sessions.specs.Talks.{Talk, Party, party, Responds, RespondsAt}
+use Rattle.port_sessions.specs.declared.hearing.Hearing.{Hearing}
+use Rattle.port_sessions.specs.Talks.{Party, party, Responds, RespondsAt}
 use Rattle.resp2.specs.declared.command.CommandFault.{CommandFault}
 use Rattle.resp2.specs.Commands.{redis_command_of}
 use Rattle.resp2.specs.declared.framing.fault.FrameFault.{FrameFault}
@@ -29,9 +30,11 @@ use Rattle.resp2.specs.Framing.Frame.{Frame}
 use Rattle.resp2.specs.Framing.Stream.{Held, reading, ended, bytes_in, Feeds}
 use Rattle.sentinel_cell.specs.declared.view.View.{View}
 use Rattle.sentinel_cell.specs.Histories.{World}
+use Rattle.sentinel_rules.specs.Plans.{roster_of}
 use Rattle.courteous_sessions.specs.Epochs.{heard_as}
 use Rattle.courteous_sessions.specs.Visits.{Guest, guest, turn_in, channel_turn, is_confined, confined, Answers, Serves, ServesBy, ServesBesideBy, ServesBeside, ServesIn, Tells, ServesAll, IsAnswered, IsUnanswered, IsRefused, Breaks, Receives}
-use Rattle.courteous_sessions.specs.OnTheWay.{AnswersBeside, IsIdle, IsReady, IsOnTheWay, IsDone, Steps, Drains, Refuses, guest_of}
+use Rattle.courteous_sessions.specs.OnTheWay.{AnswersBeside, IsReady, IsOnTheWay, IsDone, Steps, Drains, guest_of}
+use Rattle.port_sessions.specs.OnTheWay.{Refuses}
 
 -- ---- what the reading of a value and an attendant's turn say
 
@@ -40,9 +43,9 @@ pub was_read : {V : Type 0} (view : V → Frame) (held : Held) (value : V) (afte
 was_read view (reading bytes) value after is h = h
 was_read view (ended fault) value after is h = absurd (let no : ⊥ = cc in no)
 
-asker_is : (attended : Attendance) (l : Listening) (talk : Talk) (v : View) → attended.asker.listens ≡ is_confined attended.asker.protocol l
-    → attended.asker ≡ (guest_of attended l talk v).asker
-asker_is attended l talk v h = ap (λ (b : Bool). let a : ClientInfo = record attended.asker { listens = b } in a) h
+asker_is : (attended : Attendance) (l : Listening) (hearing : Hearing) (v : View) → attended.asker.listens ≡ is_confined attended.asker.protocol l
+    → attended.asker ≡ (guest_of attended l hearing v).asker
+asker_is attended l hearing v h = ap (λ (b : Bool). let a : ClientInfo = record attended.asker { listens = b } in a) h
 
 module _ (start : World) (now : ℕ) where
   -- the session below answers any command but SUBSCRIBE, and then it listens to notes as before
@@ -89,7 +92,7 @@ module _ (start : World) (now : ℕ) where
       responds_alike p (heard_as asker.current (redis_command_of value)) bytes q (heard_otherwise asker.current (redis_command_of value) not) h
   answers_alike asker (said answer) p value bytes q not h = ap (λ (x : Party). x.listens) h.1
   answers_alike asker silent p value bytes q not h = ap (λ (x : Party). x.listens) h.1
-  answers_alike asker asks_masters p value bytes q not h = responds_alike p (Ok Masters) h.answer q (λ e. let no : ⊥ = cc in no) h.turned
+  answers_alike asker asks_info p value bytes q not h = responds_alike p (Ok Info) h.answer q (λ e. let no : ⊥ = cc in no) h.turned
 
 -- a value that Pub/Sub doesn't answer isn't SUBSCRIBE, unless the client is still to give its password
 stranger_or_not : (test : Bool) (given : ChannelAnswer) → elim test as (λ _. ChannelAnswer) [ true ↦ other | false ↦ given ] ≡ other → (test ≡ true) ⊎ (given ≡ other)
@@ -123,138 +126,135 @@ module _ (start : World) (now : ℕ) where
   said_alike asker left p value bytes q is h = absurd (let no : ⊥ = cc in no)
   said_alike asker (said answer) p value bytes q is h = ap (λ (x : Party). x.listens) h.1
   said_alike asker silent p value bytes q is h = ap (λ (x : Party). x.listens) h.1
-  said_alike asker asks_masters p value bytes q is h = absurd (let no : ⊥ = cc in no)
+  said_alike asker asks_info p value bytes q is h = absurd (let no : ⊥ = cc in no)
 
   -- where Pub/Sub doesn't answer a value, the session below listens to notes after it as before
   pub listens_alike : (asker : ClientInfo) (l : Listening) (p : Party) (value : Frame) (bytes : List ℕ) (q : Party) → asker.protocol ≡ Two
-      → channel_turn asker l value ≡ other → Answers start now asker (courtesy asker value) p value bytes q → q.listens ≡ p.listens
+      → channel_turn asker l value ≡ other → Answers start now asker (courtesy (roster_of start.plan) asker value) p value bytes q → q.listens ≡ p.listens
   listens_alike asker l p value bytes q speaks none h = at (stranger_or_not (is_stranger asker) (turn_in asker.protocol l value) none) where
     at : (is_stranger asker ≡ true) ⊎ (turn_in asker.protocol l value ≡ other) → q.listens ≡ p.listens
-    at (inl stranger) = said_alike asker (courtesy asker value) p value bytes q (strangers_are_answered asker value stranger) h
-    at (inr is) = answers_alike start now asker (courtesy asker value) p value bytes q (not_subscribe value l (in_two asker l value speaks is)) h
+    at (inl stranger) = said_alike asker (courtesy (roster_of start.plan) asker value) p value bytes q (strangers_are_answered (roster_of start.plan) asker value stranger) h
+    at (inr is) = answers_alike start now asker (courtesy (roster_of start.plan) asker value) p value bytes q (not_subscribe value l (in_two asker l value speaks is)) h
 
   same_words : (asker : ClientInfo) (value : Frame) (becomes : Answer) (p : Party) (bytes : List ℕ) (q : Party)
       → Answers start now (asker_after asker value) becomes p value bytes q → Answers start now asker becomes p value bytes q
   same_words asker value left p bytes q h = h
   same_words asker value (said answer) p bytes q h = h
-  same_words asker value asks_masters p bytes q h = h
+  same_words asker value asks_info p bytes q h = h
   same_words asker value silent p bytes q h = h
 
   -- a value was attended to, and then answered by what became of it
-  pub served_by_others : (before after : Attendance) (l : Listening) (talk later : Talk) (v w : View) (value : Frame) (more : List ℕ) → IsReady before l talk
-      → channel_turn before.asker l value ≡ other → confined l after.asker ≡ confined l (asker_after before.asker value) → later.told ≡ talk.told
-      → Answers start now before.asker (courtesy before.asker value) (party v talk.listens) value more (party w later.listens)
-      → Serves start now (guest_of before l talk v) value more (guest_of after l later w)
-  served_by_others before after l talk later v w value more ready none is told a =
+  pub served_by_others : (before after : Attendance) (l : Listening) (hearing later : Hearing) (v w : View) (value : Frame) (more : List ℕ) → IsReady before l hearing
+      → channel_turn before.asker l value ≡ other → confined l after.asker ≡ confined l (asker_after before.asker value) → later.told ≡ hearing.told
+      → Answers start now before.asker (courtesy (roster_of start.plan) before.asker value) (party v hearing.listens) value more (party w later.listens)
+      → Serves start now (guest_of before l hearing v) value more (guest_of after l later w)
+  served_by_others before after l hearing later v w value more ready none is told a =
       let q = party w later.listens in
-      let at = λ (x : ClientInfo). let g : Guest = record { party = party v talk.listens; asker = x; listening = l; told = talk.told } in g in
-      let known : guest q l later.told after.asker ≡ guest q l talk.told (asker_after before.asker value) =
-      ap (λ (t : List (Option ℕ)). guest q l t after.asker) told ∙ ap (λ (x : ClientInfo). let h : Guest = record { party = q; asker = x; listening = l; told = talk.told } in h) is
+      let at = λ (x : ClientInfo). let g : Guest = record { party = party v hearing.listens; asker = x; listening = l; told = hearing.told } in g in
+      let known : guest q l later.told after.asker ≡ guest q l hearing.told (asker_after before.asker value) =
+      ap (λ (t : List (Option ℕ)). guest q l t after.asker) told ∙ ap (λ (x : ClientInfo). let h : Guest = record { party = q; asker = x; listening = l; told = hearing.told } in h) is
       in
       let by : ServesBy start now other (at before.asker) value more (guest_of after l later w) = (q, a, known) in
       let here : ServesBy start now (channel_turn before.asker l value) (at before.asker) value more (guest_of after l later w) =
       subst (λ (t : ChannelAnswer). ServesBy start now t (at before.asker) value more (guest_of after l later w)) (sym none) by
       in
-      subst (λ (x : ClientInfo). ServesBy start now (channel_turn x l value) (at x) value more (guest_of after l later w)) (asker_is before l talk v ready.listens) here
+      subst (λ (x : ClientInfo). ServesBy start now (channel_turn x l value) (at x) value more (guest_of after l later w)) (asker_is before l hearing v ready.listens) here
 
   -- it is ready for the next one then
-  pub ready_by_others : (before after : Attendance) (l : Listening) (talk later : Talk) (v w : View) (value : Frame) (more : List ℕ) → IsReady before l talk
+  pub ready_by_others : (before after : Attendance) (l : Listening) (hearing later : Hearing) (v w : View) (value : Frame) (more : List ℕ) → IsReady before l hearing
       → before.asker.protocol ≡ Two → channel_turn before.asker l value ≡ other → after.asker.listens ≡ is_confined after.asker.protocol l → after.held ≡ before.held
-      → IsIdle later → Answers start now before.asker (courtesy before.asker value) (party v talk.listens) value more (party w later.listens) → IsReady after l later
-  ready_by_others before after l talk later v w value more ready speaks none is held idle a =
+      → Answers start now before.asker (courtesy (roster_of start.plan) before.asker value) (party v hearing.listens) value more (party w later.listens) → IsReady after l later
+  ready_by_others before after l hearing later v w value more ready speaks none is held a =
       record {
         reads = held ∙ ready.reads ∙ ap (λ (h : Held). reading (bytes_in h)) (sym held);
-        idle = idle;
         listens = is;
-        hears = ap (λ (since : Option ℕ). is_some since) (listens_alike before.asker l (party v talk.listens) value more (party w later.listens) speaks none a) ∙ ready.hears;
+        hears = ap (λ (since : Option ℕ). is_some since) (listens_alike before.asker l (party v hearing.listens) value more (party w later.listens) speaks none a) ∙ ready.hears;
       }
 
   -- what a connection's own words change of it makes no difference to how an answer is told
-  pub asked_before : (asker after : ClientInfo) (value : Frame) (becomes : Answer) (unsent given : List ℕ) (v : View) (talk later : Talk) (w : View)
-      → after ≡ asker_after asker value → (more : List ℕ) × (given ≡ unsent ++ more) × IsIdle later
-      × Answers start now after becomes (party v talk.listens) value more (party w later.listens)
-      → (more : List ℕ) × (given ≡ unsent ++ more) × IsIdle later
-      × Answers start now asker becomes (party v talk.listens) value more (party w later.listens)
-  asked_before asker after value becomes unsent given v talk later w is got = (
+  pub asked_before : (asker after : ClientInfo) (value : Frame) (becomes : Answer) (unsent given : List ℕ) (v : View) (hearing later : Hearing) (w : View)
+      → after ≡ asker_after asker value → (more : List ℕ) × (given ≡ unsent ++ more)
+      × Answers start now after becomes (party v hearing.listens) value more (party w later.listens)
+      → (more : List ℕ) × (given ≡ unsent ++ more)
+      × Answers start now asker becomes (party v hearing.listens) value more (party w later.listens)
+  asked_before asker after value becomes unsent given v hearing later w is got = (
     got.0,
     got.1,
-    got.2,
-    same_words asker value becomes (party v talk.listens) got.0 (party w later.listens)
-        (subst (λ (x : ClientInfo). Answers start now x becomes (party v talk.listens) value got.0 (party w later.listens)) is got.3),
+    same_words asker value becomes (party v hearing.listens) got.0 (party w later.listens)
+        (subst (λ (x : ClientInfo). Answers start now x becomes (party v hearing.listens) value got.0 (party w later.listens)) is got.2),
   )
 
-  pub answered_by_others : (before after : Attendance) (l later_l : Listening) (talk later : Talk) (v w : View) (value : Frame) (unsent given : List ℕ) → IsReady before l talk
+  pub answered_by_others : (before after : Attendance) (l later_l : Listening) (hearing later : Hearing) (v w : View) (value : Frame) (unsent given : List ℕ) → IsReady before l hearing
       → before.asker.protocol ≡ Two → channel_turn before.asker l value ≡ other → confined l after.asker ≡ confined l (asker_after before.asker value)
-      → after.asker.listens ≡ is_confined after.asker.protocol l → after.held ≡ before.held → later.told ≡ talk.told → later_l ≡ l
-      → (more : List ℕ) × (given ≡ unsent ++ more) × IsIdle later
-      × Answers start now before.asker (courtesy before.asker value) (party v talk.listens) value more (party w later.listens)
+      → after.asker.listens ≡ is_confined after.asker.protocol l → after.held ≡ before.held → later.told ≡ hearing.told → later_l ≡ l
+      → (more : List ℕ) × (given ≡ unsent ++ more)
+      × Answers start now before.asker (courtesy (roster_of start.plan) before.asker value) (party v hearing.listens) value more (party w later.listens)
       → (more : List ℕ) × (given ≡ unsent ++ more) × IsReady after later_l later
-      × Serves start now (guest_of before l talk v) value more (guest_of after later_l later w)
-  answered_by_others before after l later_l talk later v w value unsent given ready speaks none is confines held told same got =
-      let is_ready = ready_by_others before after l talk later v w value got.0 ready speaks none confines held got.2 got.3 in
-      let serves = served_by_others before after l talk later v w value got.0 ready none is told got.3 in (
+      × Serves start now (guest_of before l hearing v) value more (guest_of after later_l later w)
+  answered_by_others before after l later_l hearing later v w value unsent given ready speaks none is confines held told same got =
+      let is_ready = ready_by_others before after l hearing later v w value got.0 ready speaks none confines held got.2 in
+      let serves = served_by_others before after l hearing later v w value got.0 ready none is told got.2 in (
         got.0,
         got.1,
         subst (λ (x : Listening). IsReady after x later) (sym same) is_ready,
-        subst (λ (x : Listening). Serves start now (guest_of before l talk v) value got.0 (guest_of after x later w)) (sym same) serves,
+        subst (λ (x : Listening). Serves start now (guest_of before l hearing v) value got.0 (guest_of after x later w)) (sym same) serves,
       )
 
   -- at protocol 3 a session beside the one below answered it, which listens to notes as before
-  pub answered_beside : (before after : Attendance) (l later_l : Listening) (talk later : Talk) (v w : View) (value : Frame) (unsent given : List ℕ) → IsReady before l talk
+  pub answered_beside : (before after : Attendance) (l later_l : Listening) (hearing later : Hearing) (v w : View) (value : Frame) (unsent given : List ℕ) → IsReady before l hearing
       → channel_turn before.asker l value ≡ other → confined l after.asker ≡ confined l (asker_after before.asker value)
-      → after.asker.listens ≡ is_confined after.asker.protocol l → after.held ≡ before.held → later ≡ talk → later_l ≡ l
-      → AnswersBeside start now before.asker (courtesy before.asker value) v value unsent given w
+      → after.asker.listens ≡ is_confined after.asker.protocol l → after.held ≡ before.held → later ≡ hearing → later_l ≡ l
+      → AnswersBeside start now before.asker (courtesy (roster_of start.plan) before.asker value) v value unsent given w
       → (more : List ℕ) × (given ≡ unsent ++ more) × IsReady after later_l later
-      × ServesBeside start now (guest_of before l talk v) value more (guest_of after later_l later w)
-  answered_beside before after l later_l talk later v w value unsent given ready none is confines held same_talk same got =
+      × ServesBeside start now (guest_of before l hearing v) value more (guest_of after later_l later w)
+  answered_beside before after l later_l hearing later v w value unsent given ready none is confines held same_hearing same got =
       let more = got.answer in
-      let g = guest_of before l talk v in
-      let at = λ (x : ClientInfo). let g : Guest = record { party = party v talk.listens; asker = x; listening = l; told = talk.told } in g in
-      let h = guest_of after l talk w in
-      let known : h ≡ guest (party w talk.listens) l talk.told (asker_after before.asker value) =
-      ap (λ (x : ClientInfo). let h : Guest = record { party = party w talk.listens; asker = x; listening = l; told = talk.told } in h) is
+      let g = guest_of before l hearing v in
+      let at = λ (x : ClientInfo). let g : Guest = record { party = party v hearing.listens; asker = x; listening = l; told = hearing.told } in g in
+      let h = guest_of after l hearing w in
+      let known : h ≡ guest (party w hearing.listens) l hearing.told (asker_after before.asker value) =
+      ap (λ (x : ClientInfo). let h : Guest = record { party = party w hearing.listens; asker = x; listening = l; told = hearing.told } in h) is
       in
       let by : ServesBesideBy start now other (at before.asker) value more h = (party w got.listens, got.answers, known) in
       let here : ServesBesideBy start now (channel_turn before.asker l value) (at before.asker) value more h =
       subst (λ (t : ChannelAnswer). ServesBesideBy start now t (at before.asker) value more h) (sym none) by
       in
       let there : ServesBeside start now g value more h =
-      subst (λ (x : ClientInfo). ServesBesideBy start now (channel_turn x l value) (at x) value more h) (asker_is before l talk v ready.listens) here
+      subst (λ (x : ClientInfo). ServesBesideBy start now (channel_turn x l value) (at x) value more h) (asker_is before l hearing v ready.listens) here
       in
-      let is_ready : IsReady after l talk =
+      let is_ready : IsReady after l hearing =
       record {
         reads = held ∙ ready.reads ∙ ap (λ (h : Held). reading (bytes_in h)) (sym held);
-        idle = ready.idle;
         listens = confines;
         hears = ready.hears;
       }
       in (
         more,
         got.left_is,
-        subst (λ (x : Listening). IsReady after x later) (sym same) (subst (λ (t : Talk). IsReady after l t) (sym same_talk) is_ready),
+        subst (λ (x : Listening). IsReady after x later) (sym same) (subst (λ (t : Hearing). IsReady after l t) (sym same_hearing) is_ready),
         subst (λ (x : Listening). ServesBeside start now g value more (guest_of after x later w)) (sym same)
-            (subst (λ (t : Talk). ServesBeside start now g value more (guest_of after l t w)) (sym same_talk) there),
+            (subst (λ (t : Hearing). ServesBeside start now g value more (guest_of after l t w)) (sym same_hearing) there),
       )
 
   -- there a session below that listens to no notes may answer it too
-  pub served_unheard : (before after : Attendance) (l : Listening) (talk later : Talk) (v w : View) (value : Frame) (more : List ℕ) (listens : Option ℕ) → IsReady before l talk
-      → channel_turn before.asker l value ≡ other → confined l after.asker ≡ confined l (asker_after before.asker value) → later.told ≡ talk.told
-      → later.listens ≡ talk.listens
-      → Answers start now before.asker (courtesy before.asker value) (party v None) value more (party w listens)
-      → ServesBeside start now (guest_of before l talk v) value more (guest_of after l later w)
-  served_unheard before after l talk later v w value more listens ready none is told since a =
-      let at = λ (x : ClientInfo). let g : Guest = record { party = party v talk.listens; asker = x; listening = l; told = talk.told } in g in
+  pub served_unheard : (before after : Attendance) (l : Listening) (hearing later : Hearing) (v w : View) (value : Frame) (more : List ℕ) (listens : Option ℕ) → IsReady before l hearing
+      → channel_turn before.asker l value ≡ other → confined l after.asker ≡ confined l (asker_after before.asker value) → later.told ≡ hearing.told
+      → later.listens ≡ hearing.listens
+      → Answers start now before.asker (courtesy (roster_of start.plan) before.asker value) (party v None) value more (party w listens)
+      → ServesBeside start now (guest_of before l hearing v) value more (guest_of after l later w)
+  served_unheard before after l hearing later v w value more listens ready none is told since a =
+      let at = λ (x : ClientInfo). let g : Guest = record { party = party v hearing.listens; asker = x; listening = l; told = hearing.told } in g in
       let h = guest_of after l later w in
-      let known : h ≡ guest (party w talk.listens) l talk.told (asker_after before.asker value) =
+      let known : h ≡ guest (party w hearing.listens) l hearing.told (asker_after before.asker value) =
       ap (λ (t : List (Option ℕ)). guest (party w later.listens) l t after.asker) told
-      ∙ ap (λ (s : Option ℕ). guest (party w s) l talk.told after.asker) since
-      ∙ ap (λ (x : ClientInfo). let h : Guest = record { party = party w talk.listens; asker = x; listening = l; told = talk.told } in h) is
+      ∙ ap (λ (s : Option ℕ). guest (party w s) l hearing.told after.asker) since
+      ∙ ap (λ (x : ClientInfo). let h : Guest = record { party = party w hearing.listens; asker = x; listening = l; told = hearing.told } in h) is
       in
       let by : ServesBesideBy start now other (at before.asker) value more h = (party w listens, a, known) in
       let here : ServesBesideBy start now (channel_turn before.asker l value) (at before.asker) value more h =
       subst (λ (t : ChannelAnswer). ServesBesideBy start now t (at before.asker) value more h) (sym none) by
       in
-      subst (λ (x : ClientInfo). ServesBesideBy start now (channel_turn x l value) (at x) value more h) (asker_is before l talk v ready.listens) here
+      subst (λ (x : ClientInfo). ServesBesideBy start now (channel_turn x l value) (at x) value more h) (asker_is before l hearing v ready.listens) here
 
   -- what a connection's own words change of it makes no difference to how it is answered beside
   pub asked_beside : (asker after : ClientInfo) (value : Frame) (becomes : Answer) (unsent given : List ℕ) (v w : View) → after ≡ asker_after asker value
@@ -277,9 +277,9 @@ other_turn (confirmed answers l) is = absurd (let no : ⊥ = cc in no)
 pub listens_on : (l m : Listening) (t : ChannelAnswer) → t ≡ other → m ≡ listening_after l t → m ≡ l
 listens_on l m t is after = after ∙ ap (λ (x : ChannelAnswer). listening_after l x) is
 
-pub ready_same : (before same : Attendance) (l m : Listening) (talk kept : Talk) → IsReady before l talk → same ≡ before → m ≡ l → kept ≡ talk → IsReady same m kept
-ready_same before same l m talk kept ready a b c =
-    subst (λ (x : Attendance). IsReady x m kept) (sym a) (subst (λ (x : Listening). IsReady before x kept) (sym b) (subst (λ (x : Talk). IsReady before l x) (sym c) ready))
+pub ready_same : (before same : Attendance) (l m : Listening) (hearing kept : Hearing) → IsReady before l hearing → same ≡ before → m ≡ l → kept ≡ hearing → IsReady same m kept
+ready_same before same l m hearing kept ready a b c =
+    subst (λ (x : Attendance). IsReady x m kept) (sym a) (subst (λ (x : Listening). IsReady before x kept) (sym b) (subst (λ (x : Hearing). IsReady before l x) (sym c) ready))
 
 pub turn_same : (before same : Attendance) (l m : Listening) (value : Frame) → channel_turn before.asker l value ≡ other → same ≡ before → m ≡ l
     → channel_turn same.asker m value ≡ other
@@ -287,18 +287,18 @@ turn_same before same l m value is a b =
     ap (λ (x : Attendance). channel_turn x.asker m value) a ∙ ap (λ (x : Listening). channel_turn before.asker x value) b ∙ is
 
 module _ (start : World) (now : ℕ) where
-  pub served_same : {X : Type 0} (protocol spoken : Protocol) (before same : Attendance) (l m : Listening) (talk kept : Talk) (v : View) (value : Frame)
-      (unsent held_back given : List ℕ) (h : Guest) → spoken ≡ protocol → same ≡ before → m ≡ l → kept ≡ talk → held_back ≡ unsent
+  pub served_same : {X : Type 0} (protocol spoken : Protocol) (before same : Attendance) (l m : Listening) (hearing kept : Hearing) (v : View) (value : Frame)
+      (unsent held_back given : List ℕ) (h : Guest) → spoken ≡ protocol → same ≡ before → m ≡ l → kept ≡ hearing → held_back ≡ unsent
       → (more : List ℕ) × (given ≡ held_back ++ more) × X × ServesIn start now protocol (guest_of same m kept v) value more h
-      → (more : List ℕ) × (given ≡ unsent ++ more) × X × ServesIn start now spoken (guest_of before l talk v) value more h
-  served_same protocol spoken before same l m talk kept v value unsent held_back given h speaks a b c d got = (
+      → (more : List ℕ) × (given ≡ unsent ++ more) × X × ServesIn start now spoken (guest_of before l hearing v) value more h
+  served_same protocol spoken before same l m hearing kept v value unsent held_back given h speaks a b c d got = (
     got.0,
     got.1 ∙ ap (λ (t : List ℕ). t ++ got.0) d,
     got.2,
-    subst (λ (p : Protocol). ServesIn start now p (guest_of before l talk v) value got.0 h) (sym speaks)
-        (subst (λ (x : Attendance). ServesIn start now protocol (guest_of x l talk v) value got.0 h) a
-        (subst (λ (x : Listening). ServesIn start now protocol (guest_of same x talk v) value got.0 h) b
-        (subst (λ (x : Talk). ServesIn start now protocol (guest_of same m x v) value got.0 h) c got.3))),
+    subst (λ (p : Protocol). ServesIn start now p (guest_of before l hearing v) value got.0 h) (sym speaks)
+        (subst (λ (x : Attendance). ServesIn start now protocol (guest_of x l hearing v) value got.0 h) a
+        (subst (λ (x : Listening). ServesIn start now protocol (guest_of same x hearing v) value got.0 h) b
+        (subst (λ (x : Hearing). ServesIn start now protocol (guest_of same m x v) value got.0 h) c got.3))),
   )
 
 -- ---- values of a stream
@@ -421,14 +421,6 @@ module _ (start : World) (now : ℕ) where
       → Steps start now stream g (Ok more) held bytes h → IsDone start now stream g held bytes h
   came_to_the_end stream g true held bytes h is s = absurd (true≢false is)
   came_to_the_end stream g false held bytes h is s = s
-
-  -- the piece was added, and nothing was answered yet
-  pub begun : {X : Type 0} (answer : Result X FrameFault) (held after : Held) (piece : List ℕ) (g : Guest) → held ≡ reading (bytes_in held) → is_err answer ≡ false
-      → Feeds held piece answer after → IsOnTheWay start now (bytes_in held ++ piece) g after [] g
-  begun (Ok x) (reading bytes) after piece g is ok fed =
-      record { values = []; rest = bytes ++ piece; held_is = fed; parts = refl; answers = (refl, refl) }
-  begun (Err f) (reading bytes) after piece g is ok fed = absurd (true≢false ok)
-  begun answer (ended f) after piece g is ok fed = absurd (let no : ⊥ = cc in no)
 
   pub was_received : {X : Type 0} (answer : Result X ServeFault) (stream : List ℕ) (g : Guest) (held : Held) (bytes : List ℕ) (h : Guest)
       → Drains start now stream g answer held bytes h → Receives start now stream g answer (bytes_in held) bytes h

@@ -22,19 +22,19 @@ use Rattle.courteous_sessions.specs.Events.{told_of, event_told, is_any}
 use Rattle.courteous_sessions.specs.Retelling.{IsTold}
 use Rattle.courteous_sessions.specs.declared.shapes.Shape.TheVariants.{Pushes}
 use Rattle.courteous_sessions.specs.GoingOn.{GoesOn}
-use Rattle.courteous_sessions.specs.Visits.{unsubscribed, Visit, Guest, introduced, guest, Receives}
+use Rattle.courteous_sessions.specs.Visits.{unsubscribed, Visit, Guest, guest, Receives}
 use Rattle.courteous_sessions.specs.declared.client_session.ClientSession.{ClientSession}
 use Rattle.courteous_sessions.specs.declared.client_session.ClientSession.TheVariants.{Plain, Courteous}
 
 -- what is known of a connection at its beginning
 abbrev pub newcomer : (id : ℕ) → ClientInfo
 newcomer id =
-    record { id = id; name = []; protocol = Two; listens = false; masters = []; password = None; admitted = false; current = None; port = no_port }
+    record { id = id; name = []; protocol = Two; listens = false; password = None; admitted = false; current = None; port = no_port }
 
 -- a session with courtesies to which no bytes came
 abbrev pub arrived : (id : ℕ) → Visit
 arrived id =
-    record { asker = newcomer id; knows_masters = false; held = []; unsent = []; ended = None; listening = unsubscribed; listens = None; told = none_told }
+    record { asker = newcomer id; held = []; unsent = []; ended = None; listening = unsubscribed; listens = None; told = none_told }
 
 -- one to which no bytes came, of the connection with this number
 abbrev pub begun : (courteous : Bool) → (id : ℕ) → ClientSession
@@ -118,10 +118,6 @@ owes_password (Courteous visit) = is_stranger visit.asker
 abbrev pub guest_of_visit : Visit → View → Guest
 guest_of_visit visit v = guest (party v visit.listens) visit.listening visit.told visit.asker
 
--- so it is once the connection was told the names of the masters
-abbrev pub guest_at : World → Visit → View → Guest
-guest_at start visit v = guest (party v visit.listens) visit.listening visit.told (introduced start visit.knows_masters visit.asker)
-
 module _ (start : World) (now : ℕ) (piece : List ℕ) (result : Result Unit ServeFault) (v w : View) where
   -- a session without courtesies takes a piece
   pub record TakesPlain (talk after : Talk) : Type 0 where
@@ -136,8 +132,7 @@ module _ (start : World) (now : ℕ) (piece : List ℕ) (result : Result Unit Se
   -- a session with courtesies takes a piece
   pub record TakesCourteous (visit after : Visit) : Type 0 where
     pub received : visit.ended ≡ None → (more : List ℕ) × (after.unsent ≡ visit.unsent ++ more)
-        × Receives start now (visit.held ++ piece) (guest_at start visit v) result after.held more (guest_of_visit after w)
-    pub knows : OnOk result (after.knows_masters ≡ true)
+        × Receives start now (visit.held ++ piece) (guest_of_visit visit v) result after.held more (guest_of_visit after w)
     pub goes_on : OnOk result (after.ended ≡ None)
     pub closed : IfErr result (λ fault. after.ended ≡ Some fault)
     pub emptied : OnErr result ((after.held ≡ []) × (after.listening ≡ unsubscribed) × (after.listens ≡ None))
@@ -163,8 +158,7 @@ module _ (start : World) (now most : ℕ) (piece : List ℕ) (result : Result Re
   -- the same of a session with courtesies
   pub record TakesSomeCourteous (visit after : Visit) : Type 0 where
     pub goes_on : visit.ended ≡ None → (more : List ℕ) × (after.unsent ≡ visit.unsent ++ more)
-        × GoesOn start now most (visit.held ++ piece) (guest_at start visit v) result after.held more (guest_of_visit after w)
-    pub knows : OnOk result (after.knows_masters ≡ true)
+        × GoesOn start now most (visit.held ++ piece) (guest_of_visit visit v) result after.held more (guest_of_visit after w)
     pub is_open : OnOk result (after.ended ≡ None)
     pub closed : IfErr result (λ fault. after.ended ≡ Some fault)
     pub emptied : OnErr result ((after.held ≡ []) × (after.listening ≡ unsubscribed) × (after.listens ≡ None))

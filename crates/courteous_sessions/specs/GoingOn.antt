@@ -1,5 +1,6 @@
 -- How a piece is taken by a call that answers so many values that may store, and no more.
-use Rattle.std.specs.Prelude.{◌≡◌, ◌≤◌, ◌<◌, ◌+◌, ℕ, false, Option, None, Some, List, Result, Ok, Err}
+use Rattle.std.specs.Prelude.{◌≡◌, ◌≤◌, ◌<◌, ◌+◌, ◌++◌, ℕ, false, Option, None, Some, List, Result, Ok, Err}
+use Rattle.std.specs.Borrow.{Bor}
 use Rattle.ballot_law.specs.declared.commands.Command.{Command}
 use Rattle.ballot_law.specs.Limits as limits
 use Rattle.pubsub.specs.Listening.{Listening, is_listening}
@@ -74,6 +75,17 @@ module _ (start : World) (now : ℕ) (most : ℕ) (stream : List ℕ) (g : Guest
   abbrev pub DrainsWithin : Result Reach ServeFault → Held → (bytes : List ℕ) → Guest → Type 0
   DrainsWithin (Ok progress) held bytes h = Stops progress held bytes h
   DrainsWithin (Err fault) held bytes h = BreaksWithin fault bytes h.party.view
+
+  -- how the answering of the first command of a piece ends, where it stands, of which `rest` comes still: it was answered, or it is none that is answered so
+  abbrev pub StepsInPlace : Result (Option (Bor (List ℕ))) ServeFault → (rest bytes : List ℕ) → Guest → Type 0
+  StepsInPlace (Ok (Some more)) rest bytes h = IsWithin most (reading more.now) bytes h
+  StepsInPlace (Ok None) rest bytes h = IsWithin most (reading rest) bytes h
+  StepsInPlace (Err fault) rest bytes h = BreaksWithin fault bytes h.party.view
+
+  -- and of all of them, where `held` is what was held before the piece
+  abbrev pub DrainsInPlace : Result (Bor (List ℕ)) ServeFault → (held bytes : List ℕ) → Guest → Type 0
+  DrainsInPlace (Ok rest) held bytes h = IsWithin most (reading (held ++ rest.now)) bytes h
+  DrainsInPlace (Err fault) held bytes h = BreaksWithin fault bytes h.party.view
 
 -- ---- the next value
 

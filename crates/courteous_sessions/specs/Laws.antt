@@ -16,6 +16,7 @@ use Rattle.port_sessions.specs.Talks.{Party, party, Responds}
 use Rattle.resp2.specs.Commands.{redis_command_of}
 use Rattle.resp2.specs.Framing.Frame.{Frame, FrameList, no_frames, spelling, spellings}
 use Rattle.sentinel_cell.specs.Histories.{World}
+use Rattle.sentinel_rules.specs.Plans.{roster_of}
 use Rattle.courteous_sessions.specs.Epochs.{is_far, heard}
 use Rattle.courteous_sessions.specs.Events.{told_of, event_told}
 use Rattle.courteous_sessions.specs.declared.shapes.Shape.TheVariants.{Pushes}
@@ -79,14 +80,14 @@ AnswersListeners =
 abbrev pub TakesNoTurn : Type 0
 TakesNoTurn =
     (start : World) (now : ℕ) (g h : Guest) (value answer : Frame) (bytes : List ℕ)
-    → channel_turn g.asker g.listening value ≡ other → courtesy g.asker value ≡ said answer → Tells start now g value bytes h
+    → channel_turn g.asker g.listening value ≡ other → courtesy (roster_of start.plan) g.asker value ≡ said answer → Tells start now g value bytes h
     → IsTold h.asker.protocol (shape_of value) (spelling answer) bytes × (h.party ≡ g.party)
 
 -- a value that has no answer puts out nothing, and its seat sees nothing
 abbrev pub IsPassedOver : Type 0
 IsPassedOver =
     (start : World) (now : ℕ) (g h : Guest) (value : Frame) (bytes : List ℕ)
-    → channel_turn g.asker g.listening value ≡ other → courtesy g.asker value ≡ silent → Tells start now g value bytes h
+    → channel_turn g.asker g.listening value ≡ other → courtesy (roster_of start.plan) g.asker value ≡ silent → Tells start now g value bytes h
     → (bytes ≡ []) × (h.party ≡ g.party)
 
 -- where a password is wanted that the client didn't give, no value takes a turn, its seat sees nothing, and it listens to nothing that it didn't listen to before

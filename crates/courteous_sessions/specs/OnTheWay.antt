@@ -5,16 +5,18 @@ use Rattle.ballot_law.specs.declared.commands.Command.{Command}
 use Rattle.ballot_law.specs.declared.messages.Note.{Note}
 use Rattle.ballot_law.specs.Rosters.{Roster}
 use Rattle.pubsub.specs.declared.channel.Event.{Event}
-use Rattle.pubsub.specs.Listening.{Listening}
+use Rattle.pubsub.specs.Listening.{Listening, is_listening}
 use Rattle.client_commands.specs.Attendants.{Attendance}
 use Rattle.client_commands.specs.declared.protocols.Protocol.{Protocol}
-use Rattle.client_commands.specs.Courtesies.{ClientInfo, Answer}
+use Rattle.client_commands.specs.declared.protocols.Protocol.TheVariants.{Two}
+use Rattle.client_commands.specs.Courtesies.{ClientInfo, Answer, is_stranger}
 use Rattle.client_commands.specs.Lines.{Reads}
 use Rattle.sentinel_core.specs.declared.serving.fault.ServeFault.{ServeFault}
 use Rattle.sentinel_core.specs.declared.serving.fault.ServeFault.TheVariants.{Frame as FaultyFrame, NoMemory as OutOfMemory}
 use Rattle.sentinel_core.specs.Serving.Serving.{last_line}
-use Rattle.port_sessions.specs.Notes.{is_due}
-use Rattle.port_sessions.specs.Talks.{Talk, Party, party, Responds}
+use Rattle.port_sessions.specs.declared.hearing.Hearing.{Hearing}
+use Rattle.port_sessions.specs.Notes.{is_news}
+use Rattle.port_sessions.specs.Talks.{Party, party, Responds}
 use Rattle.resp2.specs.declared.command.CommandFault.{CommandFault}
 use Rattle.resp2.specs.declared.framing.fault.FrameFault.{FrameFault}
 use Rattle.resp2.specs.declared.framing.fault.FrameFault.TheVariants.{NoMemory}
@@ -28,19 +30,20 @@ use Rattle.courteous_sessions.specs.Retelling.{IsTold, JoinsTold}
 use Rattle.courteous_sessions.specs.declared.shapes.Shape.TheVariants.{Plain, Pushes}
 use Rattle.courteous_sessions.specs.Visits.{Guest, guest, is_confined, unsubscribed, hears_switches, told_after, Answers, Tunes, ServesAll, IsAnswered, Breaks}
 
--- a session that holds nothing and goes on
-pub record IsIdle (talk : Talk) : Type 0 where
-  pub none_held : talk.held ≡ []
-  pub none_unsent : talk.unsent ≡ []
-  pub goes_on : talk.ended ≡ None
-
--- between two values the session below holds nothing and goes on, it listens to notes where the connection hears of new addresses and nowhere else, and it is known
--- whether the connection has no commands but those of Pub/Sub
-pub record IsReady (attended : Attendance) (listening : Listening) (talk : Talk) : Type 0 where
+-- between two values the responder listens to notes where the connection hears of new addresses and nowhere else, and it is known whether the connection has no commands
+-- but those of Pub/Sub
+pub record IsReady (attended : Attendance) (listening : Listening) (hearing : Hearing) : Type 0 where
   pub reads : attended.held ≡ reading (bytes_in attended.held)
-  pub idle : IsIdle talk
   pub listens : attended.asker.listens ≡ is_confined attended.asker.protocol listening
-  pub hears : is_some talk.listens ≡ hears_switches listening
+  pub hears : is_some hearing.listens ≡ hears_switches listening
+
+-- a command may be answered where it stands in a piece: nothing is held, the connection speaks protocol 2 and listens to nothing, and no password is wanted that the client
+-- didn't give
+pub record IsDirect (attended : Attendance) (listening : Listening) : Type 0 where
+  pub none_held : attended.held ≡ reading []
+  pub speaks : attended.asker.protocol ≡ Two
+  pub known : is_stranger attended.asker ≡ false
+  pub quiet : is_listening listening ≡ false
 
 -- a session that ended listens to nothing
 abbrev pub IsSilenced : Option ServeFault → Listening → Type 0
@@ -48,8 +51,8 @@ IsSilenced None l = Unit {0}
 IsSilenced (Some fault) l = l ≡ unsubscribed
 
 -- what the next answer rests on
-abbrev pub guest_of : Attendance → Listening → Talk → View → Guest
-guest_of attended listening talk v = guest (party v talk.listens) listening talk.told attended.asker
+abbrev pub guest_of : Attendance → Listening → Hearing → View → Guest
+guest_of attended listening hearing v = guest (party v hearing.listens) listening hearing.told attended.asker
 
 -- the same is known of a connection, and the same bytes are held
 pub record IsSameAsker (before after : Attendance) : Type 0 where
@@ -61,15 +64,16 @@ pub record BeginsWith (bytes : List ℕ) (value : Frame) : Type 0 where
   pub rest : List ℕ
   pub found : frame_at bytes ≡ Ok (value, rest)
 
--- What became of a note: the session below was told of it, its own text was dropped, and what the connection is told of it joined what isn't sent yet; or it isn't
--- due; or memory for it was refused
-abbrev pub NotifiesBelow : {E : Type 0} → Roster → Note → (entry : ℕ) → Protocol → Listening → Talk → (unsent : List ℕ) → Result Bool E → Talk → (unsent : List ℕ) → Type 0
-NotifiesBelow roster note entry protocol l talk unsent (Ok true) after more =
-    (is_due talk note entry ≡ true) × (after.listens ≡ talk.listens) × (after.told ≡ slice_set talk.told note.master (Some note.card.epoch))
-    × JoinsTold protocol Pushes (spellings (told_of roster note l)) unsent more
-NotifiesBelow roster note entry protocol l talk unsent (Ok false) after more = (is_due talk note entry ≡ false) × (after ≡ talk) × (more ≡ unsent)
-NotifiesBelow roster note entry protocol l talk unsent (Err refused) after more =
-    (is_due talk note entry ≡ true) × (after.listens ≡ talk.listens) × (more ≡ unsent)
+-- What became of a note: it counts as told, and what the connection is told of it joined what isn't sent yet; or it isn't due; or memory for it was refused
+abbrev pub NotifiesBelow : {E : Type 0} → Roster → Note → (entry : ℕ) → Protocol → Listening → Hearing → (unsent : List ℕ) → Result Bool E → Hearing → (unsent : List ℕ)
+    → Type 0
+NotifiesBelow roster note entry protocol l hearing unsent (Ok true) after more =
+    (is_news hearing.listens hearing.told note entry ≡ true) × (after.listens ≡ hearing.listens)
+    × (after.told ≡ slice_set hearing.told note.master (Some note.card.epoch)) × JoinsTold protocol Pushes (spellings (told_of roster note l)) unsent more
+NotifiesBelow roster note entry protocol l hearing unsent (Ok false) after more =
+    (is_news hearing.listens hearing.told note entry ≡ false) × (after.listens ≡ hearing.listens) × (after.told ≡ hearing.told) × (more ≡ unsent)
+NotifiesBelow roster note entry protocol l hearing unsent (Err refused) after more =
+    (is_news hearing.listens hearing.told note entry ≡ true) × (after.listens ≡ hearing.listens) × (more ≡ unsent)
 
 -- what became of an event: whether anything is told of it, which joined what isn't sent yet; or memory for it was refused
 abbrev pub TellsBelow : {E : Type 0} → Event → Protocol → Listening → (unsent : List ℕ) → Result Bool E → (unsent : List ℕ) → Type 0
@@ -77,26 +81,21 @@ TellsBelow event protocol l unsent (Ok any) more =
     (any ≡ is_any (spellings (event_told event l))) × JoinsTold protocol Pushes (spellings (event_told event l)) unsent more
 TellsBelow event protocol l unsent (Err refused) more = more ≡ unsent
 
--- the fault that ends a session at a frame's fault, and what is put out for it
-abbrev pub Refuses : FrameFault → (line : List ℕ) → ServeFault → Type 0
-Refuses fault line why = ((why ≡ OutOfMemory) × (line ≡ [])) ⊎ ((fault ≢ NoMemory) × (why ≡ FaultyFrame fault) × (line ≡ last_line))
-
 module _ (start : World) (now : ℕ) where
-  -- the session below listens to notes where the connection hears of new addresses, and nowhere else
-  pub record IsTuned (hears : Bool) (talk : Talk) (v : View) (after : Talk) (w : View) : Type 0 where
-    pub idle : IsIdle after
+  -- the responder listens to notes where the connection hears of new addresses, and nowhere else
+  pub record IsTuned (hears : Bool) (hearing : Hearing) (v : View) (after : Hearing) (w : View) : Type 0 where
     pub listens : is_some after.listens ≡ hears
-    pub tunes : Tunes start now hears (party v talk.listens) (party w after.listens)
-    pub told : after.told ≡ told_after hears talk.told
+    pub tunes : Tunes start now hears (party v hearing.listens) (party w after.listens)
+    pub told : after.told ≡ told_after hears hearing.told
 
-  -- a value was answered by a session beside the one below: what joined what isn't sent yet
+  -- a value was answered as of a connection that hears of no new addresses: what joined what isn't sent yet
   pub record AnswersBeside (asker : ClientInfo) (becomes : Answer) (v : View) (value : Frame) (unsent left : List ℕ) (w : View) : Type 0 where
     pub answer : List ℕ
     pub listens : Option ℕ
     pub left_is : left ≡ unsent ++ answer
     pub answers : Answers start now asker becomes (party v None) value answer (party w listens)
 
-  -- the session below answered a command, and its answer was told as the protocol tells one that is told as it is
+  -- a command was answered, and its answer was told as the protocol tells one that is told as it is
   pub record RespondsIn (protocol : Protocol) (p : Party) (asked : Result Command CommandFault) (bytes : List ℕ) (q : Party) : Type 0 where
     pub answer : List ℕ
     pub responds : Responds start now p asked answer q

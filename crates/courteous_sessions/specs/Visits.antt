@@ -1,8 +1,7 @@
 -- What a client is answered whose session has courtesies, and how its session ends.
-use Rattle.std.specs.Prelude.{◌≡◌, ◌⊎◌, ◌++◌, ◌∷◌, ℕ, Bool, true, false, Option, None, Some, List, [], Result, Ok, Err, map, length}
+use Rattle.std.specs.Prelude.{◌≡◌, ◌⊎◌, ◌++◌, ◌∷◌, ℕ, Bool, true, false, Option, None, Some, List, [], Result, Ok, Err}
 use Rattle.ballot_law.specs.declared.commands.Command.{Command}
-use Rattle.ballot_law.specs.declared.commands.Command.TheVariants.{Masters, Subscribe}
-use Rattle.ballot_law.specs.Rosters.{MasterPlan}
+use Rattle.ballot_law.specs.declared.commands.Command.TheVariants.{Info, Subscribe}
 use Rattle.pubsub.specs.declared.channel.Channel.TheVariants.{SwitchMaster}
 use Rattle.pubsub.specs.Answering.{Answer as ChannelAnswer, other, said as confirmed, answer as channel_answer}
 use Rattle.pubsub.specs.Listening.{Listening, is_listening}
@@ -10,14 +9,14 @@ use Rattle.pubsub.specs.Telling.{channel_name, hears}
 use Rattle.client_commands.specs.declared.port_facts.Figures.{Figures}
 use Rattle.client_commands.specs.declared.protocols.Protocol.{Protocol}
 use Rattle.client_commands.specs.declared.protocols.Protocol.TheVariants.{Two, Three}
-use Rattle.client_commands.specs.Courtesies.{ClientInfo, MonitoredMaster, Answer, left, said, asks_masters, silent, courtesy, asker_after, is_stranger}
+use Rattle.client_commands.specs.Courtesies.{ClientInfo, Answer, left, said, asks_info, silent, courtesy, asker_after, is_stranger}
 use Rattle.client_commands.specs.Infos.{info}
 use Rattle.client_commands.specs.Lines.{Reads, Holds}
 use Rattle.sentinel_core.specs.declared.serving.fault.ServeFault.{ServeFault}
 use Rattle.sentinel_core.specs.declared.serving.fault.ServeFault.TheVariants.{Frame as FaultyFrame, Read, Write, Halted, NoMemory}
 use Rattle.sentinel_core.specs.Serving.Serving.{last_line}
 use Rattle.port_sessions.specs.Notes.{none_told}
-use Rattle.port_sessions.specs.Talks.{Party, party, Responds, Fails}
+use Rattle.port_sessions.specs.Talks.{Party, party, Responds, BeginsNotes, Fails}
 use Rattle.resp2.specs.Commands.{redis_command_of}
 use Rattle.resp2.specs.declared.framing.fault.FrameFault.{FrameFault}
 use Rattle.resp2.specs.Framing.Frame.{Frame, spelling, spellings}
@@ -30,31 +29,17 @@ use Rattle.sentinel_rules.specs.Plans.{roster_of}
 use Rattle.courteous_sessions.specs.Epochs.{heard_as}
 use Rattle.courteous_sessions.specs.Retelling.{first_word, is_subscribing, shape_of, IsTold}
 
--- What a session with courtesies has: what is known of its connection, and whether the names of the Sentinel's masters are among that; the bytes that came and are no
+-- What a session with courtesies has: what is known of its connection; the bytes that came and are no
 -- whole value yet, the answers, notes and events that aren't sent yet, and the fault that ended it; to which channels and patterns it listens. Where it hears of new
 -- addresses, it has the entry since which it does, and of each master the epoch of the configuration that it was told last since then
 pub record Visit : Type 0 where
   pub asker : ClientInfo
-  pub knows_masters : Bool
   pub held : List ℕ
   pub unsent : List ℕ
   pub ended : Option ServeFault
   pub listening : Listening
   pub listens : Option ℕ
   pub told : List (Option ℕ)
-
--- a master of a roster, as a connection knows it
-abbrev pub monitored : MasterPlan → MonitoredMaster
-monitored master = record { name = master.name; nodes = length master.nodes }
-
--- the masters of a Sentinel
-abbrev pub masters_of : World → List MonitoredMaster
-masters_of start = map monitored (roster_of start.plan).masters
-
--- what is known of a connection once it was told the masters of this Sentinel
-abbrev pub introduced : World → (knows_masters : Bool) → ClientInfo → ClientInfo
-introduced start true asker = asker
-introduced start false asker = record asker { masters = masters_of start }
 
 -- what an answer rests on: what the seat has seen and since which entry the session below listens to notes, what is known of the connection, to what it listens, and
 -- of each master the epoch of the configuration that it was told last
@@ -104,10 +89,10 @@ told_after true told = told
 told_after false told = none_told
 
 module _ (start : World) (now : ℕ) where
-  -- INFO is answered by what the port counts and the first value that the Sentinel answers to SENTINEL MASTERS
+  -- INFO is answered by what the port counts and the first value that the Sentinel answers where it is asked for its section
   pub record TellsInfo (figures : Figures) (p : Party) (value : Frame) (bytes : List ℕ) (q : Party) : Type 0 where
     pub answer : List ℕ
-    pub turned : Responds start now p (Ok Masters) answer q
+    pub turned : Responds start now p (Ok Info) answer q
     pub told : Frame
     pub rest : List ℕ
     pub first : frame_at answer ≡ Ok (told, rest)
@@ -118,24 +103,19 @@ module _ (start : World) (now : ℕ) where
   abbrev pub Answers : ClientInfo → Answer → Party → Frame → List ℕ → Party → Type 0
   Answers asker left p value bytes q = Responds start now p (heard_as asker.current (redis_command_of value)) bytes q
   Answers asker (said answer) p value bytes q = (bytes ≡ spelling answer) × (q ≡ p)
-  Answers asker asks_masters p value bytes q = TellsInfo asker.port.figures p value bytes q
+  Answers asker asks_info p value bytes q = TellsInfo asker.port.figures p value bytes q
   Answers asker silent p value bytes q = (bytes ≡ []) × (q ≡ p)
-
-  -- the session below begins to listen to notes where it doesn't: it is asked SUBSCRIBE, whose answer isn't told
-  abbrev pub BeginsNotes : Option ℕ → Party → Party → Type 0
-  BeginsNotes None p q = (confirmation : List ℕ) × Responds start now p (Ok Subscribe) confirmation q
-  BeginsNotes (Some entry) p q = q ≡ p
 
   -- it listens to notes where the connection hears of new addresses, and else to nothing
   abbrev pub Tunes : (hears : Bool) → Party → Party → Type 0
-  Tunes true p q = BeginsNotes p.listens p q
+  Tunes true p q = BeginsNotes start now p.listens p q
   Tunes false p q = q ≡ party p.view None
 
   -- The answer to a value by what Pub/Sub makes of it. Where that is nothing, a courtesy or the session below answers it, and it changes nothing of what the
   -- connection listens to
   abbrev pub ServesBy : ChannelAnswer → Guest → Frame → List ℕ → Guest → Type 0
   ServesBy other g value bytes h =
-      (q : Party) × Answers g.asker (courtesy g.asker value) g.party value bytes q × (h ≡ guest q g.listening g.told (asker_after g.asker value))
+      (q : Party) × Answers g.asker (courtesy (roster_of start.plan) g.asker value) g.party value bytes q × (h ≡ guest q g.listening g.told (asker_after g.asker value))
   ServesBy (confirmed answers after) g value bytes h =
       (q : Party) × Tunes (hears_switches after) g.party q × (bytes ≡ spellings answers) × (h ≡ guest q after (told_after (hears_switches after) g.told) g.asker)
 
@@ -146,7 +126,7 @@ module _ (start : World) (now : ℕ) where
   -- The same at protocol 3, before it is told as that has it: one who listens is answered as one who doesn't, and goes on listening
   abbrev pub ServesBesideBy : ChannelAnswer → Guest → Frame → List ℕ → Guest → Type 0
   ServesBesideBy other g value bytes h =
-      (q : Party) × Answers g.asker (courtesy g.asker value) (party g.party.view None) value bytes q
+      (q : Party) × Answers g.asker (courtesy (roster_of start.plan) g.asker value) (party g.party.view None) value bytes q
       × (h ≡ guest (party q.view g.party.listens) g.listening g.told (asker_after g.asker value))
   ServesBesideBy (confirmed answers after) g value bytes h = ServesBy (confirmed answers after) g value bytes h
 
@@ -175,9 +155,9 @@ module _ (start : World) (now : ℕ) where
     pub splits : Holds stream values (reading held)
     pub answers : ServesAll g values bytes h
 
-  -- what the session below, or one beside it, may be asked for a value: its own command as it is heard, SENTINEL MASTERS, or SUBSCRIBE
+  -- what the session below, or one beside it, may be asked for a value: its own command as it is heard, the section of INFO, or SUBSCRIBE
   abbrev pub IsAskedFor : Frame → Result Command CommandFault → Type 0
-  IsAskedFor value asked = ((current : Option ℕ) × (asked ≡ heard_as current (redis_command_of value))) ⊎ ((asked ≡ Ok Masters) ⊎ (asked ≡ Ok Subscribe))
+  IsAskedFor value asked = ((current : Option ℕ) × (asked ≡ heard_as current (redis_command_of value))) ⊎ ((asked ≡ Ok Info) ⊎ (asked ≡ Ok Subscribe))
 
   -- such a session has no answer to what it is asked, which may have been carried out: what the seat has seen before that, and then
   abbrev pub FailsAt : View → Result Command CommandFault → ServeFault → View → Type 0

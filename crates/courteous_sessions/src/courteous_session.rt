@@ -3,7 +3,7 @@
 ghost use Rattle.std.specs.Prelude.{◌≡◌, ◌≤◌, ◌<◌, ◌↔◌, ◌++◌, ℕ, List, [], None, Some, Err, true, OnOk, OnErr, IfErr, IfSome, IsTrue, length, drop};
 ghost use Rattle.pubsub.specs.Listening.{is_listening};
 ghost use Rattle.client_commands.specs.Courtesies.{is_stranger};
-ghost use Rattle.courteous_sessions.specs.Clients.{arrived, guest_at, guest_of_visit, wanting, NotifiesVisit, TellsVisit, knowing, knowing_of};
+ghost use Rattle.courteous_sessions.specs.Clients.{arrived, guest_of_visit, wanting, NotifiesVisit, TellsVisit, knowing, knowing_of};
 ghost use Rattle.courteous_sessions.specs.GoingOn.{GoesOn};
 ghost use Rattle.courteous_sessions.specs.Visits.{unsubscribed, Receives};
 
@@ -20,8 +20,8 @@ use std::alloc::Global;
 use std::marker::Model;
 use std::sync::Wait;
 
-/// The conversation with one client of a port, with courtesies. Contracts see what is known of its connection, and
-/// whether the names of the Sentinel's masters are among that; the bytes held, which came and are no whole value yet,
+/// The conversation with one client of a port, with courtesies. Contracts see what is known of its connection; the
+/// bytes held, which came and are no whole value yet,
 /// the answers, notes and events that aren't sent yet, and the fault that ended it; to which channels and patterns it
 /// listens; whether it hears of new addresses, with the entry since which it does; and of each master the epoch of the
 /// configuration that it was told last since then.
@@ -35,24 +35,25 @@ impl Model for CourteousSession {
     ghost use Rattle.resp2.specs.Framing.Stream.{bytes_in};
     ghost use Rattle.courteous_sessions.specs.Visits.{Visit};
     ghost use Rattle.port_sessions.specs.Talks.{IsEmptied};
-    ghost use Rattle.courteous_sessions.specs.OnTheWay.{IsReady, IsSilenced};
+    ghost use Rattle.std.specs.Prelude.{◌≡◌, true};
+    ghost use Rattle.courteous_sessions.specs.OnTheWay.{IsReady, IsDirect, IsSilenced};
 
     ghost Value = { Visit };
 
     ghost view = { λ session. record {
       asker = session.exchange.attendant.asker;
-      knows_masters = session.exchange.knows_masters;
       held = bytes_in session.exchange.attendant.held;
-      unsent = session.exchange.unsent.items;
+      unsent = session.exchange.responder.unsent.items;
       ended = session.fault;
       listening = session.exchange.subscriptions;
-      listens = session.exchange.session.listens;
-      told = session.exchange.session.told;
+      listens = session.exchange.responder.hears.listens;
+      told = session.exchange.responder.hears.told;
     } };
 
-    ghost invariant = { λ session. IsReady session.exchange.attendant session.exchange.subscriptions session.exchange.session
-        × IsEmptied session.fault (bytes_in session.exchange.attendant.held) session.exchange.session.listens
-        × IsSilenced session.fault session.exchange.subscriptions };
+    ghost invariant = { λ session. IsReady session.exchange.attendant session.exchange.subscriptions session.exchange.responder.hears
+        × IsEmptied session.fault (bytes_in session.exchange.attendant.held) session.exchange.responder.hears.listens
+        × IsSilenced session.fault session.exchange.subscriptions
+        × (session.exchange.direct ≡ true → IsDirect session.exchange.attendant session.exchange.subscriptions) };
 }
 
 impl CourteousSession {
@@ -132,13 +133,11 @@ impl CourteousSession {
 
     /// Takes the next piece of what the client sends, of any length, at a reading of the clock in milliseconds, and
     /// puts out the answer to each value that is whole with it, in their order: that of Pub/Sub, where it has one, else
-    /// that of `Session::received`, or the courtesy of the value where it has one. INFO takes the turn of SENTINEL
-    /// MASTERS, and no other courtesy takes one. Where the connection begins to hear of new addresses, by a channel or
+    /// that of `Session::received`, or the courtesy of the value where it has one. INFO takes a turn
+    /// where it asks for the Sentinel's section, and no other courtesy takes one. Where the connection begins to hear of new addresses, by a channel or
     /// a pattern, that takes the turn of SUBSCRIBE, since whose entry notes are due to it; nothing else of Pub/Sub
     /// takes one. Each answer is told in the protocol that the client speaks then: RESP2 until HELLO asks for RESP3,
     /// where one who listens has all commands.
-    ///
-    /// The first call learns the names of the Sentinel's masters, by which ROLE is answered from then on.
     ///
     /// `Frame` where the bytes are no RESP2 value: the values before were answered, and `-ERR Protocol error` stands
     /// after their answers. `Halted` where a command took a turn and the Sentinel is halted: it has no answer.
@@ -159,8 +158,7 @@ impl CourteousSession {
         // them are held.
         ensures received { self.old.ended ≡ None → (more : List ℕ) × (self.new.unsent ≡ self.old.unsent ++ more)
             × Receives cell.now.start now (self.old.held ++ piece.now)
-            (guest_at cell.now.start self.old seat.old.view) result self.new.held more (guest_of_visit self.new seat.new.view) }
-        ensures knows { OnOk result (self.new.knows_masters ≡ true) }
+            (guest_of_visit self.old seat.old.view) result self.new.held more (guest_of_visit self.new seat.new.view) }
         ensures goes_on { OnOk result (self.new.ended ≡ None) }
         ensures closed { IfErr result (λ fault. self.new.ended ≡ Some fault) }
         ensures emptied { OnErr result ((self.new.held ≡ []) × (self.new.listening ≡ unsubscribed) × (self.new.listens ≡ None)) }
@@ -201,8 +199,7 @@ impl CourteousSession {
         // are held.
         ensures goes_on { self.old.ended ≡ None → (more : List ℕ) × (self.new.unsent ≡ self.old.unsent ++ more)
             × GoesOn cell.now.start now most (self.old.held ++ piece.now)
-            (guest_at cell.now.start self.old seat.old.view) result self.new.held more (guest_of_visit self.new seat.new.view) }
-        ensures knows { OnOk result (self.new.knows_masters ≡ true) }
+            (guest_of_visit self.old seat.old.view) result self.new.held more (guest_of_visit self.new seat.new.view) }
         ensures open { OnOk result (self.new.ended ≡ None) }
         ensures closed { IfErr result (λ fault. self.new.ended ≡ Some fault) }
         ensures emptied { OnErr result ((self.new.held ≡ []) × (self.new.listening ≡ unsubscribed) × (self.new.listens ≡ None)) }
@@ -226,7 +223,7 @@ impl CourteousSession {
     pub fn unsent(&self) -> &[u8]
         ensures { result.now ≡ self.now.unsent }
     {
-        self.exchange.unsent()
+        self.exchange.responder.unsent()
     }
 
     /// Whether all that came was whole values: no bytes are held.
@@ -256,7 +253,7 @@ impl CourteousSession {
         requires { n ≤ length self.old.unsent }
         ensures { self.new ≡ record self.old { unsent = drop n self.old.unsent } }
     {
-        self.exchange.sent(n);
+        self.exchange.responder.sent(n);
     }
 
     /// Gives back the room in which nothing is held, as where its client is silent for a while; the next answer takes

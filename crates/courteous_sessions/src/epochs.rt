@@ -1,6 +1,6 @@
 //! Requests for votes whose epoch is too far above the Sentinel's own one.
 
-ghost use Rattle.std.specs.Prelude.{◌≡◌, IfOk, true};
+ghost use Rattle.std.specs.Prelude.{◌≡◌, ℕ, Option, IfOk, true};
 ghost use Rattle.ballot_law.specs.Limits.{IsWithin};
 ghost use Rattle.courteous_sessions.specs.Epochs.{is_far, heard_epoch, heard, heard_as, far_request};
 
@@ -56,12 +56,12 @@ fn heard(current: Option<u64>, command: Command) -> Command
     }
 }
 
-/// Whether a value is heard as it is for certain, where this current epoch was told: none was, or the value isn't the
-/// question whether a master is down. Nothing of it is copied.
-pub(crate) fn is_plain(current: Option<u64>, asked: &Result<Command, CommandFault>) -> bool
-    ensures { result ≡ true → heard_as current asked.now ≡ asked.now }
+/// Whether a value is heard as it is, whichever current epoch was told: it isn't the question whether a master is down.
+/// Nothing of it is copied.
+pub(crate) fn is_plain(asked: &Result<Command, CommandFault>) -> bool
+    ensures { result ≡ true → (current : Option ℕ) → heard_as current asked.now ≡ asked.now }
 {
-    current.is_none() || !matches!(asked, Ok(Command::IsMasterDownByAddr { .. }))
+    !matches!(asked, Ok(Command::IsMasterDownByAddr { .. }))
 }
 
 /// The same of a value that may be no command.

@@ -4,7 +4,7 @@ ghost use Rattle.std.specs.Prelude.{Ok, ◌≡◌, ◌⊎◌, ◌≤◌, ◌<◌
 ghost use Rattle.pubsub.specs.Listening.{is_listening};
 ghost use Rattle.client_commands.specs.Attendants.{TakesCommon};
 ghost use Rattle.client_commands.specs.Courtesies.{Answer, is_stranger, kind_of, text_of};
-ghost use Rattle.port_sessions.specs.Notes.{none_told};
+ghost use Rattle.port_sessions.specs.Notes.{unheard};
 ghost use Rattle.port_sessions.specs.Talks.{party, Responds};
 ghost use Rattle.client_commands.specs.Infos.{info};
 ghost use Rattle.resp2.specs.Asked.{IsCommon};
@@ -13,46 +13,36 @@ ghost use Rattle.resp2.specs.Framing.Frame.{Frame, view, spelling, HasLines, IsF
 ghost use Rattle.resp2.specs.Framing.Stream.{reading, held_size, bytes_in};
 ghost use Rattle.courteous_sessions.specs.Clients.{newcomer};
 ghost use Rattle.courteous_sessions.specs.Epochs.{heard_as};
-ghost use Rattle.courteous_sessions.specs.OnTheWay.{AnswersBeside, IsIdle, IsReady, IsOnTheWay, IsSameAsker, Steps, Drains, Refuses, BeginsWith, guest_of};
-ghost use Rattle.courteous_sessions.specs.Visits.{Guest, guest, is_confined, unsubscribed, channel_turn, introduced, TellsInfo, Answers, Serves, ServesBeside, FailsAt, IsUnanswered, Receives};
+ghost use Rattle.courteous_sessions.specs.OnTheWay.{AnswersBeside, IsReady, IsDirect, IsOnTheWay, IsSameAsker, Steps, Drains, BeginsWith, guest_of};
+ghost use Rattle.courteous_sessions.specs.Visits.{Guest, is_confined, unsubscribed, channel_turn, TellsInfo, Answers, Serves, ServesBeside, FailsAt, IsUnanswered, Receives};
 ghost use Rattle.pubsub.specs.Answering.{other};
 
 use crate::epochs::{FarRequest, far_request, heard_as, is_plain};
-use crate::questions::{ask, first_value, monitored_by};
+use crate::questions::{bytes_from, first_value};
 use ballot_law::{Command, NoMemory, Text};
-use bytes::BytesMut;
 use client_commands::{ClientInfo, CommandReader, Courtesy, Figures, PortFacts, Protocol};
-use port_sessions::Session;
+use port_sessions::Responder;
 use pubsub::Subscriptions;
-use resp2::{CommandFault, FrameFault, Value, redis_command_of};
+use resp2::{CommandFault, Value, redis_command_of};
 use sentinel_cell::{Seat, SharedSentinel};
 use sentinel_conf::ConfStore;
 use sentinel_core::ServeFault;
 use std::alloc::Global;
-use std::mem;
 use std::sync::Wait;
 
-/// The last line of a stream that is no RESP2.
-const PROTOCOL_ERROR: &[u8] = b"-ERR Protocol error\r\n";
-
-/// How many bytes of room a client keeps for its answers once all of them are sent.
-const ROOM_KEPT: usize = 16_384;
-
-/// What tells what becomes of each value, to what the connection listens, the session that answers what is left to it,
-/// and the answers that aren't sent yet.
+/// What tells what becomes of each value, to what the connection listens, and what answers a Sentinel's own commands,
+/// with all that isn't sent yet.
 ///
-/// The session is asked commands alone, so it holds no bytes. It listens to notes where the connection hears of new
-/// addresses. `knows_masters` is whether the attendant was told the names of the Sentinel's masters, `far` the last
-/// request for a vote whose epoch was too far above the Sentinel's, and `answered` how many values were answered since
-/// that was asked.
+/// The responder listens to notes where the connection hears of new addresses. `direct` is whether a command may be
+/// answered where it stands in the next piece, `far` the last request for a vote whose epoch was too far above the
+/// Sentinel's, and `answered` how many values were answered since that was asked.
 #[derive(Drop)]
 pub(crate) struct Exchange {
     pub(crate) alloc: Global,
     pub(crate) attendant: CommandReader,
     pub(crate) subscriptions: Subscriptions,
-    pub(crate) session: Session,
-    pub(crate) unsent: BytesMut,
-    pub(crate) knows_masters: bool,
+    pub(crate) responder: Responder,
+    pub(crate) direct: bool,
     pub(crate) far: Option<FarRequest>,
     pub(crate) answered: u64,
 }
@@ -66,7 +56,6 @@ fn newcomer(alloc: Global, id: u64) -> ClientInfo
         name: Text::from_vec(Vec::new(alloc)),
         protocol: Protocol::Two,
         listens: false,
-        masters: Vec::new(alloc),
         password: None,
         admitted: false,
         current: None,
@@ -74,88 +63,36 @@ fn newcomer(alloc: Global, id: u64) -> ClientInfo
     }
 }
 
-/// Adds these bytes to what isn't sent yet.
-pub(crate) fn put_out(unsent: &mut BytesMut, bytes: &[u8]) -> Result<(), ServeFault>
-    ensures ok { OnOk result (unsent.new.items ≡ unsent.old.items ++ bytes.now) }
-    ensures err { OnErr result (unsent.new.items ≡ unsent.old.items) }
-    ensures fault { IfErr result (λ fault. fault ≡ ServeFault.NoMemory) }
-{
-    match unsent.extend_from_slice(bytes) {
-        Ok(()) => Ok(()),
-        Err(_) => Err(ServeFault::NoMemory),
-    }
-}
-
 impl Exchange {
     /// Nothing came yet of the connection with this number. No memory is taken.
     pub(crate) fn new(alloc: Global, id: u64) -> Exchange
         ensures attendant { result.attendant ≡ record { held = reading []; asker = newcomer id; text = [] } }
-        ensures session { result.session ≡ record { held = []; unsent = []; ended = None; listens = None; told = none_told } }
-        ensures unsent { result.unsent.items ≡ [] }
-        ensures knows { result.knows_masters ≡ false }
+        ensures hears { result.responder.hears ≡ unheard }
+        ensures unsent { result.responder.unsent.items ≡ [] }
+        ensures direct { result.direct ≡ false }
         ensures silent { result.subscriptions ≡ unsubscribed }
     {
         Exchange {
             alloc,
             attendant: CommandReader::new(alloc, newcomer(alloc, id)),
             subscriptions: Subscriptions::new(alloc),
-            session: Session::new(alloc),
-            unsent: BytesMut::new(alloc),
-            knows_masters: false,
+            responder: Responder::new(alloc),
+            direct: false,
             far: None,
             answered: 0,
-        }
-    }
-
-    /// The answers that aren't sent yet.
-    pub(crate) fn unsent(&self) -> &[u8]
-        ensures { result.now ≡ self.now.unsent.items }
-    {
-        self.unsent.as_slice()
-    }
-
-    /// Takes the first `n` bytes of them away.
-    pub(crate) fn sent(&mut self, n: usize)
-        requires { n ≤ length self.old.unsent.items }
-        ensures unsent { self.new.unsent.items ≡ drop n self.old.unsent.items }
-        ensures attendant { self.new.attendant ≡ self.old.attendant }
-        ensures session { self.new.session ≡ self.old.session }
-        ensures kept { (self.new.knows_masters ≡ self.old.knows_masters) × (self.new.subscriptions ≡ self.old.subscriptions) }
-        ensures room { self.new.unsent.items ≡ [] → self.new.unsent.spare ≤ ROOM_KEPT }
-    {
-        self.unsent.advance(n);
-        if self.unsent.is_empty() {
-            self.give_back();
-        }
-    }
-
-    /// Gives back the room of what was sent, where it is more than a client needs that takes its answers.
-    fn give_back(&mut self)
-        requires { self.old.unsent.items ≡ [] }
-        ensures unsent { self.new.unsent.items ≡ [] }
-        ensures attendant { self.new.attendant ≡ self.old.attendant }
-        ensures session { self.new.session ≡ self.old.session }
-        ensures kept { (self.new.knows_masters ≡ self.old.knows_masters) × (self.new.subscriptions ≡ self.old.subscriptions) }
-        ensures room { self.new.unsent.spare ≤ ROOM_KEPT }
-    {
-        self.unsent.clear();
-        if self.unsent.capacity() > ROOM_KEPT {
-            self.unsent = BytesMut::new(self.alloc);
         }
     }
 
     /// Gives back all room in which nothing is held.
     pub(crate) fn rest(&mut self)
         ensures attendant { self.new.attendant ≡ record self.old.attendant { text = [] } }
-        ensures session { self.new.session ≡ self.old.session }
-        ensures unsent { self.new.unsent.items ≡ self.old.unsent.items }
-        ensures kept { (self.new.knows_masters ≡ self.old.knows_masters) × (self.new.subscriptions ≡ self.old.subscriptions) }
+        ensures hears { self.new.responder.hears ≡ self.old.responder.hears }
+        ensures unsent { self.new.responder.unsent.items ≡ self.old.responder.unsent.items }
+        ensures kept { (self.new.subscriptions ≡ self.old.subscriptions)
+            × (self.new.direct ≡ self.old.direct) }
     {
-        self.session.rest();
+        self.responder.rest();
         self.attendant.drop_text();
-        if self.unsent.is_empty() {
-            self.unsent = BytesMut::new(self.alloc);
-        }
     }
 
     /// Has it want this password of its client, who didn't give it yet.
@@ -166,19 +103,22 @@ impl Exchange {
             admitted = false;
           };
         } }
-        ensures session { self.new.session ≡ self.old.session }
-        ensures unsent { self.new.unsent ≡ self.old.unsent }
-        ensures kept { (self.new.knows_masters ≡ self.old.knows_masters) × (self.new.subscriptions ≡ self.old.subscriptions) }
+        ensures hears { self.new.responder.hears ≡ self.old.responder.hears }
+        ensures unsent { self.new.responder.unsent.items ≡ self.old.responder.unsent.items }
+        ensures kept { self.new.subscriptions ≡ self.old.subscriptions }
+        ensures direct { self.new.direct ≡ false }
     {
         self.attendant.want_password(password);
+        self.direct = false;
     }
 
     /// Has it know this current epoch of the Sentinel.
     pub(crate) fn note_epoch(&mut self, epoch: u64)
         ensures attendant { self.new.attendant ≡ record self.old.attendant { asker = record self.old.attendant.asker { current = Some epoch } } }
-        ensures session { self.new.session ≡ self.old.session }
-        ensures unsent { self.new.unsent ≡ self.old.unsent }
-        ensures kept { (self.new.knows_masters ≡ self.old.knows_masters) × (self.new.subscriptions ≡ self.old.subscriptions) }
+        ensures hears { self.new.responder.hears ≡ self.old.responder.hears }
+        ensures unsent { self.new.responder.unsent.items ≡ self.old.responder.unsent.items }
+        ensures kept { (self.new.subscriptions ≡ self.old.subscriptions)
+            × (self.new.direct ≡ self.old.direct) }
     {
         self.attendant.note_epoch(epoch);
     }
@@ -186,9 +126,10 @@ impl Exchange {
     /// The last request for a vote whose epoch was too far above that epoch, where one came since this was asked.
     pub(crate) fn take_far(&mut self) -> Option<FarRequest>
         ensures attendant { self.new.attendant ≡ self.old.attendant }
-        ensures session { self.new.session ≡ self.old.session }
-        ensures unsent { self.new.unsent ≡ self.old.unsent }
-        ensures kept { (self.new.knows_masters ≡ self.old.knows_masters) × (self.new.subscriptions ≡ self.old.subscriptions) }
+        ensures hears { self.new.responder.hears ≡ self.old.responder.hears }
+        ensures unsent { self.new.responder.unsent.items ≡ self.old.responder.unsent.items }
+        ensures kept { (self.new.subscriptions ≡ self.old.subscriptions)
+            × (self.new.direct ≡ self.old.direct) }
         ensures request { result ≡ self.old.far }
     {
         self.far.take()
@@ -197,9 +138,10 @@ impl Exchange {
     /// How many values were answered since this was asked.
     pub(crate) fn take_answered(&mut self) -> u64
         ensures attendant { self.new.attendant ≡ self.old.attendant }
-        ensures session { self.new.session ≡ self.old.session }
-        ensures unsent { self.new.unsent ≡ self.old.unsent }
-        ensures kept { (self.new.knows_masters ≡ self.old.knows_masters) × (self.new.subscriptions ≡ self.old.subscriptions) }
+        ensures hears { self.new.responder.hears ≡ self.old.responder.hears }
+        ensures unsent { self.new.responder.unsent.items ≡ self.old.responder.unsent.items }
+        ensures kept { (self.new.subscriptions ≡ self.old.subscriptions)
+            × (self.new.direct ≡ self.old.direct) }
         ensures count { result ≡ self.old.answered }
     {
         let answered = self.answered;
@@ -210,9 +152,10 @@ impl Exchange {
     /// Has it know this of its port: what it knew before.
     pub(crate) fn know_port(&mut self, port: PortFacts) -> PortFacts
         ensures attendant { self.new.attendant ≡ record self.old.attendant { asker = record self.old.attendant.asker { port = port } } }
-        ensures session { self.new.session ≡ self.old.session }
-        ensures unsent { self.new.unsent ≡ self.old.unsent }
-        ensures kept { (self.new.knows_masters ≡ self.old.knows_masters) × (self.new.subscriptions ≡ self.old.subscriptions) }
+        ensures hears { self.new.responder.hears ≡ self.old.responder.hears }
+        ensures unsent { self.new.responder.unsent.items ≡ self.old.responder.unsent.items }
+        ensures kept { (self.new.subscriptions ≡ self.old.subscriptions)
+            × (self.new.direct ≡ self.old.direct) }
         ensures before { result ≡ self.old.attendant.asker.port }
     {
         self.attendant.know_port(port)
@@ -220,67 +163,17 @@ impl Exchange {
 
     /// The connection ends: what is held is dropped, and it listens to nothing more.
     pub(crate) fn close(&mut self)
-        ensures ready { IsReady self.new.attendant self.new.subscriptions self.new.session }
+        ensures ready { IsReady self.new.attendant self.new.subscriptions self.new.responder.hears }
         ensures held { self.new.attendant.held ≡ reading [] }
-        ensures silent { (self.new.session.listens ≡ None) × (self.new.subscriptions ≡ unsubscribed) }
-        ensures unsent { self.new.unsent.items ≡ self.old.unsent.items }
+        ensures silent { (self.new.responder.hears.listens ≡ None) × (self.new.subscriptions ≡ unsubscribed) }
+        ensures direct { self.new.direct ≡ false }
+        ensures unsent { self.new.responder.unsent.items ≡ self.old.responder.unsent.items }
     {
+        self.direct = false;
         self.attendant.drop_held();
         self.attendant.note_listening(false);
         self.subscriptions = Subscriptions::new(self.alloc);
-        self.session = Session::new(self.alloc);
-    }
-
-    /// Takes away what the session put out.
-    #[tactic(auto, using(crate::proofs::Values::none_left))]
-    pub(crate) fn drop_answers(&mut self)
-        ensures session { self.new.session ≡ record self.old.session { unsent = [] } }
-        ensures attendant { self.new.attendant ≡ self.old.attendant }
-        ensures unsent { self.new.unsent ≡ self.old.unsent }
-        ensures kept { (self.new.knows_masters ≡ self.old.knows_masters) × (self.new.subscriptions ≡ self.old.subscriptions) }
-    {
-        let count = self.session.unsent().len();
-        self.session.sent(count);
-    }
-
-    /// Adds the answers of the session to what isn't sent yet, and takes them away there.
-    fn take_answers(&mut self) -> Result<(), ServeFault>
-        ensures ok { OnOk result (self.new.unsent.items ≡ self.old.unsent.items ++ self.old.session.unsent) }
-        ensures err { OnErr result (self.new.unsent.items ≡ self.old.unsent.items) }
-        ensures session { self.new.session ≡ record self.old.session { unsent = [] } }
-        ensures attendant { self.new.attendant ≡ self.old.attendant }
-        ensures kept { (self.new.knows_masters ≡ self.old.knows_masters) × (self.new.subscriptions ≡ self.old.subscriptions) }
-        ensures fault { IfErr result (λ fault. fault ≡ ServeFault.NoMemory) }
-    {
-        let put = put_out(&mut self.unsent, self.session.unsent());
-        self.drop_answers();
-        put
-    }
-
-    /// Has it know the masters of the Sentinel, where it doesn't yet.
-    pub(crate) fn learn_masters<S: ConfStore>(
-        &mut self,
-        cell: &SharedSentinel<S>,
-    ) -> Result<(), ServeFault>
-        ensures attendant { OnOk result (self.new.attendant ≡ record self.old.attendant {
-          asker = introduced cell.now.start self.old.knows_masters self.old.attendant.asker;
-        }) }
-        ensures knows { OnOk result (self.new.knows_masters ≡ true) }
-        ensures session { (self.new.session ≡ self.old.session) × (self.new.subscriptions ≡ self.old.subscriptions) }
-        ensures unsent { self.new.unsent ≡ self.old.unsent }
-        ensures fault { IfErr result (λ fault. fault ≡ ServeFault.NoMemory) }
-    {
-        if self.knows_masters {
-            return Ok(());
-        }
-        match monitored_by(self.alloc, cell.roster()) {
-            Ok(masters) => {
-                self.attendant.note_masters(masters);
-                self.knows_masters = true;
-                Ok(())
-            }
-            Err(_) => Err(ServeFault::NoMemory),
-        }
+        self.responder.stop_listening();
     }
 
     /// The command as it is heard, or why the value is none. A request for a vote that isn't heard as it is, is kept.
@@ -289,9 +182,10 @@ impl Exchange {
         ensures heard { result ≡ heard_as self.old.attendant.asker.current asked.now }
         ensures within { IfOk result IsWithin }
         ensures attendant { self.new.attendant ≡ self.old.attendant }
-        ensures session { self.new.session ≡ self.old.session }
-        ensures unsent { self.new.unsent ≡ self.old.unsent }
-        ensures kept { (self.new.knows_masters ≡ self.old.knows_masters) × (self.new.subscriptions ≡ self.old.subscriptions) }
+        ensures hears { self.new.responder.hears ≡ self.old.responder.hears }
+        ensures unsent { self.new.responder.unsent.items ≡ self.old.responder.unsent.items }
+        ensures kept { (self.new.subscriptions ≡ self.old.subscriptions)
+            × (self.new.direct ≡ self.old.direct) }
     {
         let current = self.attendant.current();
         if let Some(request) = far_request(current, asked) {
@@ -300,8 +194,8 @@ impl Exchange {
         heard_as(current, asked)
     }
 
-    /// Has the session below answer a command as it is heard, or a value that is none for this reason.
-    fn ask_heard<S: ConfStore, R: Wait>(
+    /// Has a command answered, or a value that is none for this reason.
+    fn ask<S: ConfStore, R: Wait>(
         &mut self,
         rt: &R,
         cell: &SharedSentinel<S>,
@@ -310,29 +204,21 @@ impl Exchange {
         asked: &Result<Command, CommandFault>,
     ) -> Result<(), ServeFault>
         requires own { seat.old.cell ≡ cell.now.id }
-        requires idle { IsIdle self.old.session }
         requires within { IfOk asked.now IsWithin }
         ensures own { seat.new.cell ≡ seat.old.cell }
-        ensures answered { OnOk result (Responds cell.now.start now (party seat.old.view self.old.session.listens)
-            (heard_as self.old.attendant.asker.current asked.now) self.new.session.unsent (party seat.new.view self.new.session.listens)
-            × (self.new.session.held ≡ [])) }
-        ensures goes_on { OnOk result (self.new.session.ended ≡ None) }
-        ensures told { self.new.session.told ≡ self.old.session.told }
-        ensures kept { (self.new.attendant ≡ self.old.attendant) × (self.new.unsent ≡ self.old.unsent)
-            × (self.new.knows_masters ≡ self.old.knows_masters) × (self.new.subscriptions ≡ self.old.subscriptions) }
+        ensures answered { OnOk result ((more : List ℕ) × (self.new.responder.unsent.items ≡ self.old.responder.unsent.items ++ more)
+            × Responds cell.now.start now (party seat.old.view self.old.responder.hears.listens) asked.now more (party seat.new.view self.new.responder.hears.listens)) }
+        ensures told { self.new.responder.hears.told ≡ self.old.responder.hears.told }
+        ensures err { OnErr result (self.new.responder.unsent.items ≡ self.old.responder.unsent.items) }
         ensures fault { IfErr result (λ fault. ((fault ≡ ServeFault.Halted) ⊎ (fault ≡ ServeFault.NoMemory))
-            × FailsAt cell.now.start now seat.old.view (heard_as self.old.attendant.asker.current asked.now) fault seat.new.view) }
+            × FailsAt cell.now.start now seat.old.view asked.now fault seat.new.view) }
+        ensures kept { (self.new.attendant ≡ self.old.attendant)
+            × (self.new.subscriptions ≡ self.old.subscriptions) × (self.new.direct ≡ self.old.direct) }
     {
-        if is_plain(self.attendant.current(), asked) {
-            ask(rt, cell, seat, now, &mut self.session, asked)?;
-            return Ok(());
-        }
-        let heard = self.hear(asked);
-        ask(rt, cell, seat, now, &mut self.session, &heard)?;
-        Ok(())
+        self.responder.answer(rt, cell, seat, now, asked)
     }
 
-    /// Has the session answer a command as it is heard, or a value that is none for this reason.
+    /// Has a command answered as it is heard, or a value that is none for this reason.
     pub(crate) fn hand_on<S: ConfStore, R: Wait>(
         &mut self,
         rt: &R,
@@ -342,24 +228,26 @@ impl Exchange {
         asked: &Result<Command, CommandFault>,
     ) -> Result<(), ServeFault>
         requires own { seat.old.cell ≡ cell.now.id }
-        requires idle { IsIdle self.old.session }
         requires within { IfOk asked.now IsWithin }
         ensures own { seat.new.cell ≡ seat.old.cell }
-        ensures answered { OnOk result ((more : List ℕ) × (self.new.unsent.items ≡ self.old.unsent.items ++ more) × IsIdle self.new.session
-            × Responds cell.now.start now (party seat.old.view self.old.session.listens) (heard_as self.old.attendant.asker.current asked.now) more
-            (party seat.new.view self.new.session.listens)) }
-        ensures told { self.new.session.told ≡ self.old.session.told }
-        ensures err { OnErr result (self.new.unsent.items ≡ self.old.unsent.items) }
+        ensures answered { OnOk result ((more : List ℕ) × (self.new.responder.unsent.items ≡ self.old.responder.unsent.items ++ more)
+            × Responds cell.now.start now (party seat.old.view self.old.responder.hears.listens) (heard_as self.old.attendant.asker.current asked.now) more
+            (party seat.new.view self.new.responder.hears.listens)) }
+        ensures told { self.new.responder.hears.told ≡ self.old.responder.hears.told }
+        ensures err { OnErr result (self.new.responder.unsent.items ≡ self.old.responder.unsent.items) }
         ensures fault { IfErr result (λ fault. ((fault ≡ ServeFault.Halted) ⊎ (fault ≡ ServeFault.NoMemory))
             × FailsAt cell.now.start now seat.old.view (heard_as self.old.attendant.asker.current asked.now) fault seat.new.view) }
-        ensures kept { (self.new.attendant ≡ self.old.attendant) × (self.new.knows_masters ≡ self.old.knows_masters)
-            × (self.new.subscriptions ≡ self.old.subscriptions) }
+        ensures kept { (self.new.attendant ≡ self.old.attendant)
+            × (self.new.subscriptions ≡ self.old.subscriptions) × (self.new.direct ≡ self.old.direct) }
     {
-        self.ask_heard(rt, cell, seat, now, asked)?;
-        self.take_answers()
+        if is_plain(asked) {
+            return self.ask(rt, cell, seat, now, asked);
+        }
+        let heard = self.hear(asked);
+        self.ask(rt, cell, seat, now, &heard)
     }
 
-    /// Answers INFO by what the session answers to SENTINEL MASTERS.
+    /// Answers INFO by the section that the Sentinel tells.
     fn tell_info<S: ConfStore, R: Wait>(
         &mut self,
         rt: &R,
@@ -369,55 +257,41 @@ impl Exchange {
         value: &Value,
     ) -> Result<(), ServeFault>
         requires own { seat.old.cell ≡ cell.now.id }
-        requires idle { IsIdle self.old.session }
         ensures own { seat.new.cell ≡ seat.old.cell }
-        ensures answered { OnOk result ((more : List ℕ) × (self.new.unsent.items ≡ self.old.unsent.items ++ more) × IsIdle self.new.session
-            × TellsInfo cell.now.start now self.old.attendant.asker.port.figures (party seat.old.view self.old.session.listens) (view value.now) more
-            (party seat.new.view self.new.session.listens)) }
+        ensures answered { OnOk result ((more : List ℕ) × (self.new.responder.unsent.items ≡ self.old.responder.unsent.items ++ more)
+            × TellsInfo cell.now.start now self.old.attendant.asker.port.figures (party seat.old.view self.old.responder.hears.listens) (view value.now) more
+            (party seat.new.view self.new.responder.hears.listens)) }
         ensures same { IsSameAsker self.old.attendant self.new.attendant }
-        ensures told { self.new.session.told ≡ self.old.session.told }
-        ensures err { OnErr result (self.new.unsent.items ≡ self.old.unsent.items) }
+        ensures told { self.new.responder.hears.told ≡ self.old.responder.hears.told }
+        ensures err { OnErr result (self.new.responder.unsent.items ≡ self.old.responder.unsent.items) }
         ensures fault { IfErr result (λ fault. ((fault ≡ ServeFault.Halted) ⊎ (fault ≡ ServeFault.NoMemory))
-            × FailsAt cell.now.start now seat.old.view (Ok Command.Masters) fault seat.new.view) }
-        ensures kept { (self.new.knows_masters ≡ self.old.knows_masters) × (self.new.subscriptions ≡ self.old.subscriptions) }
+            × FailsAt cell.now.start now seat.old.view (Ok Command.Info) fault seat.new.view) }
+        ensures kept { self.new.subscriptions ≡ self.old.subscriptions }
     {
-        let asked = Ok(Command::Masters);
-        ask(rt, cell, seat, now, &mut self.session, &asked)?;
-        if self.inform(value).is_err() {
-            return Err(ServeFault::NoMemory);
+        let start = self.responder.unsent().len();
+        self.ask(rt, cell, seat, now, &Ok(Command::Info))?;
+        let informed = self.inform(value, start);
+        self.responder.cut_back(start);
+        match informed {
+            Ok(()) => self.responder.put_out(self.attendant.text()),
+            Err(_) => Err(ServeFault::NoMemory),
         }
-        self.drop_answers();
-        put_out(&mut self.unsent, self.attendant.text())
     }
 
-    /// Has the attendant's text be the answer to INFO, by the answer that the session has to SENTINEL MASTERS.
-    fn inform(&mut self, value: &Value) -> Result<(), NoMemory>
-        ensures text { OnOk result ((masters : Frame) × BeginsWith self.old.session.unsent masters
-            × (self.new.attendant.text ≡ spelling (info self.old.attendant.asker.port.figures (view value.now) masters))) }
+    /// Has the attendant's text be the answer to INFO, by the Sentinel's section, which begins at this place of what isn't
+    /// sent yet.
+    fn inform(&mut self, value: &Value, start: usize) -> Result<(), NoMemory>
+        requires { start ≤ length self.old.responder.unsent.items }
+        ensures text { OnOk result ((section : Frame) × BeginsWith (drop start self.old.responder.unsent.items) section
+            × (self.new.attendant.text ≡ spelling (info self.old.attendant.asker.port.figures (view value.now) section))) }
         ensures asker { self.new.attendant.asker ≡ self.old.attendant.asker }
         ensures held { self.new.attendant.held ≡ self.old.attendant.held }
-        ensures session { self.new.session ≡ self.old.session }
-        ensures unsent { self.new.unsent ≡ self.old.unsent }
-        ensures kept { (self.new.knows_masters ≡ self.old.knows_masters) × (self.new.subscriptions ≡ self.old.subscriptions) }
+        ensures hears { self.new.responder.hears ≡ self.old.responder.hears }
+        ensures unsent { self.new.responder.unsent.items ≡ self.old.responder.unsent.items }
+        ensures kept { self.new.subscriptions ≡ self.old.subscriptions }
     {
-        let masters = first_value(self.alloc, self.session.unsent())?;
-        self.attendant.inform(value, &masters)
-    }
-
-    /// Puts out the line of a frame's fault, and gives the fault that ends the session.
-    pub(crate) fn refuse(&mut self, fault: FrameFault) -> ServeFault
-        ensures attendant { self.new.attendant ≡ self.old.attendant }
-        ensures session { self.new.session ≡ self.old.session }
-        ensures kept { (self.new.knows_masters ≡ self.old.knows_masters) × (self.new.subscriptions ≡ self.old.subscriptions) }
-        ensures refused { (line : List ℕ) × (self.new.unsent.items ≡ self.old.unsent.items ++ line) × Refuses fault line result }
-    {
-        if let FrameFault::NoMemory = fault {
-            return ServeFault::NoMemory;
-        }
-        if put_out(&mut self.unsent, PROTOCOL_ERROR).is_err() {
-            return ServeFault::NoMemory;
-        }
-        ServeFault::Frame(fault)
+        let section = first_value(self.alloc, bytes_from(self.responder.unsent(), start))?;
+        self.attendant.inform(value, &section)
     }
 
     /// Has the value that was attended to be answered.
@@ -431,28 +305,27 @@ impl Exchange {
         kind: Courtesy,
     ) -> Result<(), ServeFault>
         requires own { seat.old.cell ≡ cell.now.id }
-        requires idle { IsIdle self.old.session }
         ensures own { seat.new.cell ≡ seat.old.cell }
         ensures answered { OnOk result ((becomes : Answer) → kind ≡ kind_of becomes → self.old.attendant.text ≡ text_of becomes
-            → (more : List ℕ) × (self.new.unsent.items ≡ self.old.unsent.items ++ more) × IsIdle self.new.session
-            × Answers cell.now.start now self.old.attendant.asker becomes (party seat.old.view self.old.session.listens) (view value.now) more
-            (party seat.new.view self.new.session.listens)) }
+            → (more : List ℕ) × (self.new.responder.unsent.items ≡ self.old.responder.unsent.items ++ more)
+            × Answers cell.now.start now self.old.attendant.asker becomes (party seat.old.view self.old.responder.hears.listens) (view value.now) more
+            (party seat.new.view self.new.responder.hears.listens)) }
         ensures same { IsSameAsker self.old.attendant self.new.attendant }
-        ensures told { self.new.session.told ≡ self.old.session.told }
-        ensures err { OnErr result (self.new.unsent.items ≡ self.old.unsent.items) }
+        ensures told { self.new.responder.hears.told ≡ self.old.responder.hears.told }
+        ensures err { OnErr result (self.new.responder.unsent.items ≡ self.old.responder.unsent.items) }
         ensures fault { IfErr result (λ fault. ((fault ≡ ServeFault.Halted) ⊎ (fault ≡ ServeFault.NoMemory))
             × IsUnanswered cell.now.start now seat.old.view (view value.now) fault seat.new.view) }
-        ensures kept { (self.new.knows_masters ≡ self.old.knows_masters) × (self.new.subscriptions ≡ self.old.subscriptions) }
+        ensures kept { self.new.subscriptions ≡ self.old.subscriptions }
     {
         match kind {
             Courtesy::Left => self.hand_on(rt, cell, seat, now, &redis_command_of(value)),
-            Courtesy::Said => put_out(&mut self.unsent, self.attendant.text()),
-            Courtesy::AsksMasters => self.tell_info(rt, cell, seat, now, value),
+            Courtesy::Said => self.responder.put_out(self.attendant.text()),
+            Courtesy::AsksInfo => self.tell_info(rt, cell, seat, now, value),
         }
     }
 
-    /// Has the value that was attended to be answered by a session beside the one below, which may listen to notes and
-    /// goes on doing so.
+    /// Has the value that was attended to be answered as of a connection that hears of no new addresses; it goes on
+    /// hearing of them.
     fn answer_beside<S: ConfStore, R: Wait>(
         &mut self,
         rt: &R,
@@ -465,18 +338,18 @@ impl Exchange {
         requires own { seat.old.cell ≡ cell.now.id }
         ensures own { seat.new.cell ≡ seat.old.cell }
         ensures answered { OnOk result ((becomes : Answer) → kind ≡ kind_of becomes → self.old.attendant.text ≡ text_of becomes
-            → AnswersBeside cell.now.start now self.old.attendant.asker becomes seat.old.view (view value.now) self.old.unsent.items self.new.unsent.items
+            → AnswersBeside cell.now.start now self.old.attendant.asker becomes seat.old.view (view value.now) self.old.responder.unsent.items self.new.responder.unsent.items
             seat.new.view) }
         ensures same { IsSameAsker self.old.attendant self.new.attendant }
-        ensures session { self.new.session ≡ self.old.session }
-        ensures err { OnErr result (self.new.unsent.items ≡ self.old.unsent.items) }
+        ensures hears { self.new.responder.hears ≡ self.old.responder.hears }
+        ensures err { OnErr result (self.new.responder.unsent.items ≡ self.old.responder.unsent.items) }
         ensures fault { IfErr result (λ fault. ((fault ≡ ServeFault.Halted) ⊎ (fault ≡ ServeFault.NoMemory))
             × IsUnanswered cell.now.start now seat.old.view (view value.now) fault seat.new.view) }
-        ensures kept { (self.new.knows_masters ≡ self.old.knows_masters) × (self.new.subscriptions ≡ self.old.subscriptions) }
+        ensures kept { self.new.subscriptions ≡ self.old.subscriptions }
     {
-        let session = mem::replace(&mut self.session, Session::new(self.alloc));
+        let since = self.responder.listen_since(None);
         let answered = self.answer(rt, cell, seat, now, value, kind);
-        self.session = session;
+        self.responder.listen_since(since);
         answered
     }
 
@@ -495,9 +368,9 @@ impl Exchange {
         ensures attendant { self.new.attendant ≡ record self.old.attendant {
           asker = record self.old.attendant.asker { listens = is_confined self.old.attendant.asker.protocol self.old.subscriptions };
         } }
-        ensures session { self.new.session ≡ self.old.session }
-        ensures unsent { self.new.unsent ≡ self.old.unsent }
-        ensures kept { (self.new.knows_masters ≡ self.old.knows_masters) × (self.new.subscriptions ≡ self.old.subscriptions) }
+        ensures hears { self.new.responder.hears ≡ self.old.responder.hears }
+        ensures unsent { self.new.responder.unsent.items ≡ self.old.responder.unsent.items }
+        ensures kept { self.new.subscriptions ≡ self.old.subscriptions }
     {
         let listens = self.is_confined();
         self.attendant.note_listening(listens);
@@ -513,22 +386,21 @@ impl Exchange {
         value: &Value,
     ) -> Result<(), ServeFault>
         requires own { seat.old.cell ≡ cell.now.id }
-        requires ready { IsReady self.old.attendant self.old.subscriptions self.old.session }
+        requires ready { IsReady self.old.attendant self.old.subscriptions self.old.responder.hears }
         requires frame { IsFrame (view value.now) × HasLines (view value.now) }
         requires other { (channel_turn self.old.attendant.asker self.old.subscriptions (view value.now) ≡ other)
             × (self.old.attendant.asker.protocol ≡ Protocol.Two) }
         ensures own { seat.new.cell ≡ seat.old.cell }
-        ensures served { OnOk result ((more : List ℕ) × (self.new.unsent.items ≡ self.old.unsent.items ++ more)
-            × IsReady self.new.attendant self.new.subscriptions self.new.session
-            × Serves cell.now.start now (guest_of self.old.attendant self.old.subscriptions self.old.session seat.old.view) (view value.now) more
-            (guest_of self.new.attendant self.new.subscriptions self.new.session seat.new.view)) }
+        ensures served { OnOk result ((more : List ℕ) × (self.new.responder.unsent.items ≡ self.old.responder.unsent.items ++ more)
+            × IsReady self.new.attendant self.new.subscriptions self.new.responder.hears
+            × Serves cell.now.start now (guest_of self.old.attendant self.old.subscriptions self.old.responder.hears seat.old.view) (view value.now) more
+            (guest_of self.new.attendant self.new.subscriptions self.new.responder.hears seat.new.view)) }
         ensures held { OnOk result (self.new.attendant.held ≡ self.old.attendant.held) }
         ensures fault { IfErr result (λ fault. ((fault ≡ ServeFault.Halted) ⊎ (fault ≡ ServeFault.NoMemory))
-            × (self.new.unsent.items ≡ self.old.unsent.items)
+            × (self.new.responder.unsent.items ≡ self.old.responder.unsent.items)
             × IsUnanswered cell.now.start now seat.old.view (view value.now) fault seat.new.view) }
-        ensures knows { self.new.knows_masters ≡ self.old.knows_masters }
     {
-        match self.attendant.attend_to(value) {
+        match self.attendant.attend_to(value, cell.roster()) {
             Ok(kind) => {
                 self.answer(rt, cell, seat, now, value, kind)?;
                 self.note_listening();
@@ -548,20 +420,19 @@ impl Exchange {
         value: &Value,
     ) -> Result<(), ServeFault>
         requires own { seat.old.cell ≡ cell.now.id }
-        requires ready { IsReady self.old.attendant self.old.subscriptions self.old.session }
+        requires ready { IsReady self.old.attendant self.old.subscriptions self.old.responder.hears }
         requires other { channel_turn self.old.attendant.asker self.old.subscriptions (view value.now) ≡ other }
         ensures own { seat.new.cell ≡ seat.old.cell }
-        ensures served { OnOk result ((more : List ℕ) × (self.new.unsent.items ≡ self.old.unsent.items ++ more)
-            × IsReady self.new.attendant self.new.subscriptions self.new.session
-            × ServesBeside cell.now.start now (guest_of self.old.attendant self.old.subscriptions self.old.session seat.old.view) (view value.now) more
-            (guest_of self.new.attendant self.new.subscriptions self.new.session seat.new.view)) }
+        ensures served { OnOk result ((more : List ℕ) × (self.new.responder.unsent.items ≡ self.old.responder.unsent.items ++ more)
+            × IsReady self.new.attendant self.new.subscriptions self.new.responder.hears
+            × ServesBeside cell.now.start now (guest_of self.old.attendant self.old.subscriptions self.old.responder.hears seat.old.view) (view value.now) more
+            (guest_of self.new.attendant self.new.subscriptions self.new.responder.hears seat.new.view)) }
         ensures held { OnOk result (self.new.attendant.held ≡ self.old.attendant.held) }
         ensures fault { IfErr result (λ fault. ((fault ≡ ServeFault.Halted) ⊎ (fault ≡ ServeFault.NoMemory))
-            × (self.new.unsent.items ≡ self.old.unsent.items)
+            × (self.new.responder.unsent.items ≡ self.old.responder.unsent.items)
             × IsUnanswered cell.now.start now seat.old.view (view value.now) fault seat.new.view) }
-        ensures knows { self.new.knows_masters ≡ self.old.knows_masters }
     {
-        match self.attendant.attend_to(value) {
+        match self.attendant.attend_to(value, cell.roster()) {
             Ok(kind) => {
                 self.answer_beside(rt, cell, seat, now, value, kind)?;
                 self.note_listening();
@@ -580,16 +451,15 @@ impl Exchange {
         now: u64,
     ) -> Result<bool, ServeFault>
         requires own { seat.old.cell ≡ cell.now.id }
-        requires ready { IsReady self.old.attendant self.old.subscriptions self.old.session }
+        requires ready { IsReady self.old.attendant self.old.subscriptions self.old.responder.hears }
         ensures own { seat.new.cell ≡ seat.old.cell }
         ensures smaller { IfOk result (λ more. IsTrue more → held_size self.new.attendant.held < held_size self.old.attendant.held) }
-        ensures ready { OnOk result (IsReady self.new.attendant self.new.subscriptions self.new.session) }
-        ensures knows { self.new.knows_masters ≡ self.old.knows_masters }
-        ensures answered { (stream before bytes : List ℕ) (g : Guest) → self.old.unsent.items ≡ before ++ bytes
+        ensures ready { OnOk result (IsReady self.new.attendant self.new.subscriptions self.new.responder.hears) }
+        ensures answered { (stream before bytes : List ℕ) (g : Guest) → self.old.responder.unsent.items ≡ before ++ bytes
             → IsOnTheWay cell.now.start now stream g self.old.attendant.held bytes
-            (guest_of self.old.attendant self.old.subscriptions self.old.session seat.old.view) → (more : List ℕ) × (self.new.unsent.items ≡ before ++ more)
+            (guest_of self.old.attendant self.old.subscriptions self.old.responder.hears seat.old.view) → (more : List ℕ) × (self.new.responder.unsent.items ≡ before ++ more)
             × Steps cell.now.start now stream g result self.new.attendant.held more
-            (guest_of self.new.attendant self.new.subscriptions self.new.session seat.new.view) }
+            (guest_of self.new.attendant self.new.subscriptions self.new.responder.hears seat.new.view) }
     {
         match self.attendant.next() {
             Ok(Some(value)) => match self.tell_value(rt, cell, seat, now, &value) {
@@ -597,7 +467,7 @@ impl Exchange {
                 Err(fault) => Err(fault),
             },
             Ok(None) => Ok(false),
-            Err(fault) => Err(self.refuse(fault)),
+            Err(fault) => Err(self.responder.refuse(fault)),
         }
     }
 
@@ -610,9 +480,9 @@ impl Exchange {
         ensures fewer { IfSome result (λ command. held_size self.new.attendant.held < held_size self.old.attendant.held) }
         ensures left { result ≡ None → self.new.attendant ≡ self.old.attendant }
         ensures asker { self.new.attendant.asker ≡ self.old.attendant.asker }
-        ensures session { self.new.session ≡ self.old.session }
-        ensures unsent { self.new.unsent ≡ self.old.unsent }
-        ensures kept { (self.new.knows_masters ≡ self.old.knows_masters) × (self.new.subscriptions ≡ self.old.subscriptions) }
+        ensures hears { self.new.responder.hears ≡ self.old.responder.hears }
+        ensures unsent { self.new.responder.unsent.items ≡ self.old.responder.unsent.items }
+        ensures kept { self.new.subscriptions ≡ self.old.subscriptions }
     {
         if self.attendant.is_stranger() || self.subscriptions.is_listening() {
             return None;
@@ -629,16 +499,15 @@ impl Exchange {
         now: u64,
     ) -> Result<bool, ServeFault>
         requires own { seat.old.cell ≡ cell.now.id }
-        requires ready { IsReady self.old.attendant self.old.subscriptions self.old.session }
+        requires ready { IsReady self.old.attendant self.old.subscriptions self.old.responder.hears }
         ensures own { seat.new.cell ≡ seat.old.cell }
         ensures smaller { IfOk result (λ more. IsTrue more → held_size self.new.attendant.held < held_size self.old.attendant.held) }
-        ensures ready { OnOk result (IsReady self.new.attendant self.new.subscriptions self.new.session) }
-        ensures knows { self.new.knows_masters ≡ self.old.knows_masters }
-        ensures answered { (stream before bytes : List ℕ) (g : Guest) → self.old.unsent.items ≡ before ++ bytes
+        ensures ready { OnOk result (IsReady self.new.attendant self.new.subscriptions self.new.responder.hears) }
+        ensures answered { (stream before bytes : List ℕ) (g : Guest) → self.old.responder.unsent.items ≡ before ++ bytes
             → IsOnTheWay cell.now.start now stream g self.old.attendant.held bytes
-            (guest_of self.old.attendant self.old.subscriptions self.old.session seat.old.view) → (more : List ℕ) × (self.new.unsent.items ≡ before ++ more)
+            (guest_of self.old.attendant self.old.subscriptions self.old.responder.hears seat.old.view) → (more : List ℕ) × (self.new.responder.unsent.items ≡ before ++ more)
             × Steps cell.now.start now stream g result self.new.attendant.held more
-            (guest_of self.new.attendant self.new.subscriptions self.new.session seat.new.view) }
+            (guest_of self.new.attendant self.new.subscriptions self.new.responder.hears seat.new.view) }
     {
         match self.next_common() {
             Some(command) => match self.tell_common(rt, cell, seat, now, command) {
@@ -658,15 +527,14 @@ impl Exchange {
         now: u64,
     ) -> Result<(), ServeFault>
         requires own { seat.old.cell ≡ cell.now.id }
-        requires ready { IsReady self.old.attendant self.old.subscriptions self.old.session }
+        requires ready { IsReady self.old.attendant self.old.subscriptions self.old.responder.hears }
         ensures own { seat.new.cell ≡ seat.old.cell }
-        ensures ready { OnOk result (IsReady self.new.attendant self.new.subscriptions self.new.session) }
-        ensures knows { self.new.knows_masters ≡ self.old.knows_masters }
-        ensures answered { (stream before bytes : List ℕ) (g : Guest) → self.old.unsent.items ≡ before ++ bytes
+        ensures ready { OnOk result (IsReady self.new.attendant self.new.subscriptions self.new.responder.hears) }
+        ensures answered { (stream before bytes : List ℕ) (g : Guest) → self.old.responder.unsent.items ≡ before ++ bytes
             → IsOnTheWay cell.now.start now stream g self.old.attendant.held bytes
-            (guest_of self.old.attendant self.old.subscriptions self.old.session seat.old.view) → (more : List ℕ) × (self.new.unsent.items ≡ before ++ more)
+            (guest_of self.old.attendant self.old.subscriptions self.old.responder.hears seat.old.view) → (more : List ℕ) × (self.new.responder.unsent.items ≡ before ++ more)
             × Drains cell.now.start now stream g result self.new.attendant.held more
-            (guest_of self.new.attendant self.new.subscriptions self.new.session seat.new.view) }
+            (guest_of self.new.attendant self.new.subscriptions self.new.responder.hears seat.new.view) }
     {
         loop {
             match self.answer_next(rt, cell, seat, now) {
@@ -674,6 +542,39 @@ impl Exchange {
                 Ok(false) => return Ok(()),
                 Err(fault) => return Err(fault),
             }
+        }
+    }
+
+    /// Adds what comes next to what is held, and answers the values that are whole with it.
+    fn take_rest<S: ConfStore, R: Wait>(
+        &mut self,
+        rt: &R,
+        cell: &SharedSentinel<S>,
+        seat: &mut Seat,
+        now: u64,
+        rest: &[u8],
+    ) -> Result<(), ServeFault>
+        requires own { seat.old.cell ≡ cell.now.id }
+        requires ready { IsReady self.old.attendant self.old.subscriptions self.old.responder.hears }
+        ensures own { seat.new.cell ≡ seat.old.cell }
+        ensures ready { OnOk result (IsReady self.new.attendant self.new.subscriptions self.new.responder.hears) }
+        ensures direct { OnOk result (self.new.direct ≡ true → IsDirect self.new.attendant self.new.subscriptions) }
+        ensures answered { (stream before bytes : List ℕ) (g : Guest) → self.old.responder.unsent.items ≡ before ++ bytes
+            → IsOnTheWay cell.now.start now stream g (reading (bytes_in self.old.attendant.held ++ rest.now)) bytes
+            (guest_of self.old.attendant self.old.subscriptions self.old.responder.hears seat.old.view)
+            → (more : List ℕ) × (self.new.responder.unsent.items ≡ before ++ more)
+            × Drains cell.now.start now stream g result self.new.attendant.held more
+            (guest_of self.new.attendant self.new.subscriptions self.new.responder.hears seat.new.view) }
+    {
+        if self.attendant.feed(rest).is_err() {
+            return Err(ServeFault::NoMemory);
+        }
+        match self.answer_whole(rt, cell, seat, now) {
+            Ok(()) => {
+                self.direct = self.may_be_direct();
+                Ok(())
+            }
+            Err(fault) => Err(fault),
         }
     }
 
@@ -687,22 +588,25 @@ impl Exchange {
         piece: &[u8],
     ) -> Result<(), ServeFault>
         requires own { seat.old.cell ≡ cell.now.id }
-        requires ready { IsReady self.old.attendant self.old.subscriptions self.old.session }
+        requires ready { IsReady self.old.attendant self.old.subscriptions self.old.responder.hears }
+        requires direct { self.old.direct ≡ true → IsDirect self.old.attendant self.old.subscriptions }
         ensures own { seat.new.cell ≡ seat.old.cell }
-        ensures ready { OnOk result (IsReady self.new.attendant self.new.subscriptions self.new.session) }
-        ensures knows { OnOk result (self.new.knows_masters ≡ true) }
-        ensures received { (more : List ℕ) × (self.new.unsent.items ≡ self.old.unsent.items ++ more)
+        ensures ready { OnOk result (IsReady self.new.attendant self.new.subscriptions self.new.responder.hears) }
+        ensures direct { OnOk result (self.new.direct ≡ true → IsDirect self.new.attendant self.new.subscriptions) }
+        ensures received { (more : List ℕ) × (self.new.responder.unsent.items ≡ self.old.responder.unsent.items ++ more)
             × Receives cell.now.start now (bytes_in self.old.attendant.held ++ piece.now)
-            (guest (party seat.old.view self.old.session.listens) self.old.subscriptions self.old.session.told
-            (introduced cell.now.start self.old.knows_masters self.old.attendant.asker)) result (bytes_in self.new.attendant.held) more
-            (guest_of self.new.attendant self.new.subscriptions self.new.session seat.new.view) }
+            (guest_of self.old.attendant self.old.subscriptions self.old.responder.hears seat.old.view) result (bytes_in self.new.attendant.held) more
+            (guest_of self.new.attendant self.new.subscriptions self.new.responder.hears seat.new.view) }
     {
-        if self.learn_masters(cell).is_err() {
-            return Err(ServeFault::NoMemory);
+        match self.answer_in_place(rt, cell, seat, now, piece) {
+            Ok(rest) => {
+                if self.direct && rest.is_empty() {
+                    Ok(())
+                } else {
+                    self.take_rest(rt, cell, seat, now, rest)
+                }
+            }
+            Err(fault) => Err(fault),
         }
-        if self.attendant.feed(piece).is_err() {
-            return Err(ServeFault::NoMemory);
-        }
-        self.answer_whole(rt, cell, seat, now)
     }
 }

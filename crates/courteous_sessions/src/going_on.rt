@@ -4,9 +4,8 @@ ghost use Rattle.std.specs.Prelude.{◌≡◌, ◌<◌, ◌+◌, ◌++◌, ℕ, 
 ghost use Rattle.port_sessions.specs.Stores.{may_store, one_if};
 ghost use Rattle.resp2.specs.Framing.Stream.{reading, held_size, bytes_in};
 ghost use Rattle.courteous_sessions.specs.GoingOn.{IsWithin, TakesAhead, StepsWithin, DrainsWithin, GoesOn};
-ghost use Rattle.courteous_sessions.specs.OnTheWay.{IsReady, guest_of};
-ghost use Rattle.courteous_sessions.specs.Visits.{Guest, guest, introduced};
-ghost use Rattle.port_sessions.specs.Talks.{party};
+ghost use Rattle.courteous_sessions.specs.OnTheWay.{IsReady, IsDirect, guest_of};
+ghost use Rattle.courteous_sessions.specs.Visits.{Guest};
 
 use crate::exchange::Exchange;
 use ballot_law::{Command, NoMemory};
@@ -31,7 +30,7 @@ pub(crate) enum NextValue {
 }
 
 /// A command as it is asked.
-fn asked_by(command: &Command) -> Result<Command, CommandFault>
+pub(crate) fn asked_by(command: &Command) -> Result<Command, CommandFault>
     ensures { result ≡ Ok command.now }
 {
     Ok(*command)
@@ -45,9 +44,9 @@ impl Exchange {
             → limit.new.mark ≡ reading (bytes_in self.old.attendant.held) }
         ensures no { result ≡ false → (may_store asked.now ≡ true) × (limit.old.most ≡ 0) × (self.new.attendant.held ≡ limit.old.mark) }
         ensures asker { self.new.attendant.asker ≡ self.old.attendant.asker }
-        ensures session { self.new.session ≡ self.old.session }
-        ensures unsent { self.new.unsent ≡ self.old.unsent }
-        ensures kept { (self.new.knows_masters ≡ self.old.knows_masters) × (self.new.subscriptions ≡ self.old.subscriptions) }
+        ensures hears { self.new.responder.hears ≡ self.old.responder.hears }
+        ensures unsent { self.new.responder.unsent.items ≡ self.old.responder.unsent.items }
+        ensures kept { self.new.subscriptions ≡ self.old.subscriptions }
     {
         if limit.allows(asked) {
             limit.follow(self.attendant.held());
@@ -64,9 +63,9 @@ impl Exchange {
         ensures ahead { TakesAhead self.old.attendant.asker self.old.subscriptions limit.old.most self.old.attendant.held result limit.new.most limit.new.mark
             self.new.attendant.held }
         ensures asker { self.new.attendant.asker ≡ self.old.attendant.asker }
-        ensures session { self.new.session ≡ self.old.session }
-        ensures unsent { self.new.unsent ≡ self.old.unsent }
-        ensures kept { (self.new.knows_masters ≡ self.old.knows_masters) × (self.new.subscriptions ≡ self.old.subscriptions) }
+        ensures hears { self.new.responder.hears ≡ self.old.responder.hears }
+        ensures unsent { self.new.responder.unsent.items ≡ self.old.responder.unsent.items }
+        ensures kept { self.new.subscriptions ≡ self.old.subscriptions }
     {
         let Some(command) = self.next_common() else {
             return self.value_ahead(limit);
@@ -84,9 +83,9 @@ impl Exchange {
         ensures ahead { TakesAhead self.old.attendant.asker self.old.subscriptions limit.old.most self.old.attendant.held result limit.new.most limit.new.mark
             self.new.attendant.held }
         ensures asker { self.new.attendant.asker ≡ self.old.attendant.asker }
-        ensures session { self.new.session ≡ self.old.session }
-        ensures unsent { self.new.unsent ≡ self.old.unsent }
-        ensures kept { (self.new.knows_masters ≡ self.old.knows_masters) × (self.new.subscriptions ≡ self.old.subscriptions) }
+        ensures hears { self.new.responder.hears ≡ self.old.responder.hears }
+        ensures unsent { self.new.responder.unsent.items ≡ self.old.responder.unsent.items }
+        ensures kept { self.new.subscriptions ≡ self.old.subscriptions }
     {
         match self.attendant.next() {
             Ok(Some(value)) => {
@@ -111,18 +110,17 @@ impl Exchange {
         limit: &mut Limit,
     ) -> Result<Option<Reach>, ServeFault>
         requires own { seat.old.cell ≡ cell.now.id }
-        requires ready { IsReady self.old.attendant self.old.subscriptions self.old.session }
+        requires ready { IsReady self.old.attendant self.old.subscriptions self.old.responder.hears }
         requires mark { limit.old.mark ≡ self.old.attendant.held }
         ensures own { seat.new.cell ≡ seat.old.cell }
-        ensures ready { OnOk result (IsReady self.new.attendant self.new.subscriptions self.new.session) }
-        ensures knows { self.new.knows_masters ≡ self.old.knows_masters }
+        ensures ready { OnOk result (IsReady self.new.attendant self.new.subscriptions self.new.responder.hears) }
         ensures mark { result ≡ Ok None → limit.new.mark ≡ self.new.attendant.held }
         ensures smaller { result ≡ Ok None → held_size self.new.attendant.held < held_size self.old.attendant.held }
-        ensures answered { (most : ℕ) (stream before bytes : List ℕ) (g : Guest) → self.old.unsent.items ≡ before ++ bytes
+        ensures answered { (most : ℕ) (stream before bytes : List ℕ) (g : Guest) → self.old.responder.unsent.items ≡ before ++ bytes
             → IsWithin cell.now.start now most stream g limit.old.most self.old.attendant.held bytes
-            (guest_of self.old.attendant self.old.subscriptions self.old.session seat.old.view) → (more : List ℕ) × (self.new.unsent.items ≡ before ++ more)
+            (guest_of self.old.attendant self.old.subscriptions self.old.responder.hears seat.old.view) → (more : List ℕ) × (self.new.responder.unsent.items ≡ before ++ more)
             × StepsWithin cell.now.start now most stream g result limit.new.most self.new.attendant.held more
-            (guest_of self.new.attendant self.new.subscriptions self.new.session seat.new.view) }
+            (guest_of self.new.attendant self.new.subscriptions self.new.responder.hears seat.new.view) }
     {
         match self.next_within(limit) {
             Ok(NextValue::Common(command)) => match self.tell_common(rt, cell, seat, now, command) {
@@ -135,7 +133,7 @@ impl Exchange {
             },
             Ok(NextValue::PutOff) => Ok(Some(Reach::Waits)),
             Ok(NextValue::Short) => Ok(Some(Reach::Done)),
-            Err(fault) => Err(self.refuse(fault)),
+            Err(fault) => Err(self.responder.refuse(fault)),
         }
     }
 
@@ -149,16 +147,15 @@ impl Exchange {
         limit: &mut Limit,
     ) -> Result<Reach, ServeFault>
         requires own { seat.old.cell ≡ cell.now.id }
-        requires ready { IsReady self.old.attendant self.old.subscriptions self.old.session }
+        requires ready { IsReady self.old.attendant self.old.subscriptions self.old.responder.hears }
         requires mark { limit.old.mark ≡ self.old.attendant.held }
         ensures own { seat.new.cell ≡ seat.old.cell }
-        ensures ready { OnOk result (IsReady self.new.attendant self.new.subscriptions self.new.session) }
-        ensures knows { self.new.knows_masters ≡ self.old.knows_masters }
-        ensures answered { (most : ℕ) (stream before bytes : List ℕ) (g : Guest) → self.old.unsent.items ≡ before ++ bytes
+        ensures ready { OnOk result (IsReady self.new.attendant self.new.subscriptions self.new.responder.hears) }
+        ensures answered { (most : ℕ) (stream before bytes : List ℕ) (g : Guest) → self.old.responder.unsent.items ≡ before ++ bytes
             → IsWithin cell.now.start now most stream g limit.old.most self.old.attendant.held bytes
-            (guest_of self.old.attendant self.old.subscriptions self.old.session seat.old.view) → (more : List ℕ) × (self.new.unsent.items ≡ before ++ more)
+            (guest_of self.old.attendant self.old.subscriptions self.old.responder.hears seat.old.view) → (more : List ℕ) × (self.new.responder.unsent.items ≡ before ++ more)
             × DrainsWithin cell.now.start now most stream g result self.new.attendant.held more
-            (guest_of self.new.attendant self.new.subscriptions self.new.session seat.new.view) }
+            (guest_of self.new.attendant self.new.subscriptions self.new.responder.hears seat.new.view) }
     {
         loop {
             match self.go_on_next(rt, cell, seat, now, limit) {
@@ -176,14 +173,48 @@ impl Exchange {
         ensures fed { OnOk result (self.new.attendant.held ≡ reading (bytes_in self.old.attendant.held ++ piece.now)) }
         ensures limit { IfOk result (λ limit. (limit.mark ≡ self.new.attendant.held) × (limit.most ≡ most)) }
         ensures asker { self.new.attendant.asker ≡ self.old.attendant.asker }
-        ensures session { self.new.session ≡ self.old.session }
-        ensures unsent { self.new.unsent ≡ self.old.unsent }
-        ensures kept { (self.new.knows_masters ≡ self.old.knows_masters) × (self.new.subscriptions ≡ self.old.subscriptions) }
+        ensures hears { self.new.responder.hears ≡ self.old.responder.hears }
+        ensures unsent { self.new.responder.unsent.items ≡ self.old.responder.unsent.items }
+        ensures kept { self.new.subscriptions ≡ self.old.subscriptions }
     {
         if self.attendant.feed(piece).is_err() {
             return Err(NoMemory);
         }
         Limit::new(self.alloc, self.attendant.held(), most)
+    }
+
+    /// Adds what comes next to what is held, and answers the values that are whole with it, of which so many may store.
+    fn take_some_rest<S: ConfStore, R: Wait>(
+        &mut self,
+        rt: &R,
+        cell: &SharedSentinel<S>,
+        seat: &mut Seat,
+        now: u64,
+        rest: &[u8],
+        most: u64,
+    ) -> Result<Reach, ServeFault>
+        requires own { seat.old.cell ≡ cell.now.id }
+        requires ready { IsReady self.old.attendant self.old.subscriptions self.old.responder.hears }
+        ensures own { seat.new.cell ≡ seat.old.cell }
+        ensures ready { OnOk result (IsReady self.new.attendant self.new.subscriptions self.new.responder.hears) }
+        ensures direct { OnOk result (self.new.direct ≡ true → IsDirect self.new.attendant self.new.subscriptions) }
+        ensures answered { (stream before bytes : List ℕ) (g : Guest) → self.old.responder.unsent.items ≡ before ++ bytes
+            → IsWithin cell.now.start now most stream g most (reading (bytes_in self.old.attendant.held ++ rest.now)) bytes
+            (guest_of self.old.attendant self.old.subscriptions self.old.responder.hears seat.old.view)
+            → (more : List ℕ) × (self.new.responder.unsent.items ≡ before ++ more)
+            × DrainsWithin cell.now.start now most stream g result self.new.attendant.held more
+            (guest_of self.new.attendant self.new.subscriptions self.new.responder.hears seat.new.view) }
+    {
+        let Ok(mut limit) = self.feed_within(rest, most) else {
+            return Err(ServeFault::NoMemory);
+        };
+        match self.go_on_whole(rt, cell, seat, now, &mut limit) {
+            Ok(reach) => {
+                self.direct = self.may_be_direct();
+                Ok(reach)
+            }
+            Err(fault) => Err(fault),
+        }
     }
 
     /// Takes the next piece, and answers the values that are whole with it, of which so many may store.
@@ -197,22 +228,25 @@ impl Exchange {
         most: u64,
     ) -> Result<Reach, ServeFault>
         requires own { seat.old.cell ≡ cell.now.id }
-        requires ready { IsReady self.old.attendant self.old.subscriptions self.old.session }
+        requires ready { IsReady self.old.attendant self.old.subscriptions self.old.responder.hears }
+        requires direct { self.old.direct ≡ true → IsDirect self.old.attendant self.old.subscriptions }
         ensures own { seat.new.cell ≡ seat.old.cell }
-        ensures ready { OnOk result (IsReady self.new.attendant self.new.subscriptions self.new.session) }
-        ensures knows { OnOk result (self.new.knows_masters ≡ true) }
-        ensures received { (more : List ℕ) × (self.new.unsent.items ≡ self.old.unsent.items ++ more)
+        ensures ready { OnOk result (IsReady self.new.attendant self.new.subscriptions self.new.responder.hears) }
+        ensures direct { OnOk result (self.new.direct ≡ true → IsDirect self.new.attendant self.new.subscriptions) }
+        ensures received { (more : List ℕ) × (self.new.responder.unsent.items ≡ self.old.responder.unsent.items ++ more)
             × GoesOn cell.now.start now most (bytes_in self.old.attendant.held ++ piece.now)
-            (guest (party seat.old.view self.old.session.listens) self.old.subscriptions self.old.session.told
-            (introduced cell.now.start self.old.knows_masters self.old.attendant.asker)) result (bytes_in self.new.attendant.held) more
-            (guest_of self.new.attendant self.new.subscriptions self.new.session seat.new.view) }
+            (guest_of self.old.attendant self.old.subscriptions self.old.responder.hears seat.old.view) result (bytes_in self.new.attendant.held) more
+            (guest_of self.new.attendant self.new.subscriptions self.new.responder.hears seat.new.view) }
     {
-        if self.learn_masters(cell).is_err() {
-            return Err(ServeFault::NoMemory);
+        match self.answer_in_place(rt, cell, seat, now, piece) {
+            Ok(rest) => {
+                if self.direct && rest.is_empty() {
+                    Ok(Reach::Done)
+                } else {
+                    self.take_some_rest(rt, cell, seat, now, rest, most)
+                }
+            }
+            Err(fault) => Err(fault),
         }
-        let Ok(mut limit) = self.feed_within(piece, most) else {
-            return Err(ServeFault::NoMemory);
-        };
-        self.go_on_whole(rt, cell, seat, now, &mut limit)
     }
 }

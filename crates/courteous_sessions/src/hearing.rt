@@ -1,24 +1,24 @@
 //! To what a connection listens, and what it is told that no value of its stream asked for.
 
 ghost use Rattle.std.specs.Prelude.{Ok, ◌≡◌, ◌⊎◌, ◌<◌, ◌++◌, ℕ, List, [], None, true, OnOk, OnErr, IfOk, IfErr, length};
+ghost use Rattle.ballot_law.specs.declared.commands.Command.TheVariants.{Subscribe};
 ghost use Rattle.ballot_law.specs.Rosters.{master_at};
 ghost use Rattle.pubsub.specs.Answering.{turn_of, text_of, listening_after};
 ghost use Rattle.pubsub.specs.Listening.{is_listening};
 ghost use Rattle.port_sessions.specs.Listening.{note_text};
 ghost use Rattle.resp2.specs.Framing.Frame.{view, spellings, HasLines, IsFrame};
 ghost use Rattle.courteous_sessions.specs.Events.{event_told};
-ghost use Rattle.courteous_sessions.specs.OnTheWay.{IsIdle, IsReady, IsTuned, NotifiesBelow, TellsBelow, guest_of};
+ghost use Rattle.courteous_sessions.specs.OnTheWay.{IsReady, IsTuned, NotifiesBelow, TellsBelow, guest_of};
 ghost use Rattle.courteous_sessions.specs.Visits.{is_confined, channel_turn, hears_switches, switches, ServesIn, FailsAt, IsUnanswered};
 ghost use Rattle.pubsub.specs.Telling.{told};
 ghost use Rattle.courteous_sessions.specs.Retelling.{JoinsTold};
 
-use crate::exchange::{Exchange, put_out};
-use crate::questions::ask;
+use crate::exchange::Exchange;
 use crate::retelling::put_told;
 use crate::shapes::{Shape, subscribes};
-use ballot_law::{Command, NoMemory, Note, Roster};
+use ballot_law::{NoMemory, Note, Roster};
 use client_commands::Protocol;
-use port_sessions::{Session, add_note};
+use port_sessions::add_note;
 use pubsub::{Channel, Event, Subscriptions, Turn};
 use resp2::{OutText, Value};
 use sentinel_cell::{Seat, SharedSentinel};
@@ -61,8 +61,8 @@ impl Exchange {
         ensures after { OnOk result (self.new.subscriptions
             ≡ listening_after self.old.subscriptions (channel_turn self.old.attendant.asker self.old.subscriptions (view value.now))) }
         ensures attendant { self.new.attendant ≡ self.old.attendant }
-        ensures session { self.new.session ≡ self.old.session }
-        ensures unsent { (self.new.unsent ≡ self.old.unsent) × (self.new.knows_masters ≡ self.old.knows_masters) }
+        ensures hears { self.new.responder.hears ≡ self.old.responder.hears }
+        ensures unsent { self.new.responder.unsent.items ≡ self.old.responder.unsent.items }
         ensures fault { IfErr result (λ fault. fault ≡ ServeFault.NoMemory) }
     {
         if self.attendant.is_stranger() {
@@ -77,7 +77,7 @@ impl Exchange {
         }
     }
 
-    /// Has the session below listen to notes, where it doesn't.
+    /// Has the responder listen to notes, where it doesn't.
     fn begin_notes<S: ConfStore, R: Wait>(
         &mut self,
         rt: &R,
@@ -86,25 +86,18 @@ impl Exchange {
         now: u64,
     ) -> Result<(), ServeFault>
         requires own { seat.old.cell ≡ cell.now.id }
-        requires idle { IsIdle self.old.session }
         ensures own { seat.new.cell ≡ seat.old.cell }
-        ensures tuned { OnOk result (IsTuned cell.now.start now true self.old.session seat.old.view self.new.session seat.new.view) }
+        ensures tuned { OnOk result (IsTuned cell.now.start now true self.old.responder.hears seat.old.view self.new.responder.hears seat.new.view) }
         ensures attendant { self.new.attendant ≡ self.old.attendant }
-        ensures unsent { self.new.unsent ≡ self.old.unsent }
-        ensures kept { (self.new.knows_masters ≡ self.old.knows_masters) × (self.new.subscriptions ≡ self.old.subscriptions) }
+        ensures unsent { self.new.responder.unsent.items ≡ self.old.responder.unsent.items }
+        ensures kept { self.new.subscriptions ≡ self.old.subscriptions }
         ensures fault { IfErr result (λ fault. ((fault ≡ ServeFault.Halted) ⊎ (fault ≡ ServeFault.NoMemory))
-            × FailsAt cell.now.start now seat.old.view (Ok Command.Subscribe) fault seat.new.view) }
+            × FailsAt cell.now.start now seat.old.view (Ok Subscribe) fault seat.new.view) }
     {
-        if self.session.listens() {
-            return Ok(());
-        }
-        let asked = Ok(Command::Subscribe);
-        ask(rt, cell, seat, now, &mut self.session, &asked)?;
-        self.drop_answers();
-        Ok(())
+        self.responder.subscribe(rt, cell, seat, now)
     }
 
-    /// Has the session below listen to notes where the connection hears of new addresses, and to nothing where it
+    /// Has the responder listen to notes where the connection hears of new addresses, and to nothing where it
     /// doesn't.
     fn tune<S: ConfStore, R: Wait>(
         &mut self,
@@ -114,20 +107,19 @@ impl Exchange {
         now: u64,
     ) -> Result<(), ServeFault>
         requires own { seat.old.cell ≡ cell.now.id }
-        requires idle { IsIdle self.old.session }
         ensures own { seat.new.cell ≡ seat.old.cell }
-        ensures tuned { OnOk result (IsTuned cell.now.start now (hears_switches self.old.subscriptions) self.old.session seat.old.view self.new.session
+        ensures tuned { OnOk result (IsTuned cell.now.start now (hears_switches self.old.subscriptions) self.old.responder.hears seat.old.view self.new.responder.hears
             seat.new.view) }
         ensures attendant { self.new.attendant ≡ self.old.attendant }
-        ensures unsent { self.new.unsent ≡ self.old.unsent }
-        ensures kept { (self.new.knows_masters ≡ self.old.knows_masters) × (self.new.subscriptions ≡ self.old.subscriptions) }
+        ensures unsent { self.new.responder.unsent.items ≡ self.old.responder.unsent.items }
+        ensures kept { self.new.subscriptions ≡ self.old.subscriptions }
         ensures fault { IfErr result (λ fault. ((fault ≡ ServeFault.Halted) ⊎ (fault ≡ ServeFault.NoMemory))
-            × FailsAt cell.now.start now seat.old.view (Ok Command.Subscribe) fault seat.new.view) }
+            × FailsAt cell.now.start now seat.old.view (Ok Subscribe) fault seat.new.view) }
     {
         if self.subscriptions.hears(Channel::SwitchMaster.name()) {
             return self.begin_notes(rt, cell, seat, now);
         }
-        self.session = Session::new(self.alloc);
+        self.responder.stop_listening();
         Ok(())
     }
 
@@ -141,25 +133,24 @@ impl Exchange {
         answer: &[u8],
     ) -> Result<(), ServeFault>
         requires own { seat.old.cell ≡ cell.now.id }
-        requires idle { IsIdle self.old.session }
         ensures own { seat.new.cell ≡ seat.old.cell }
-        ensures tuned { OnOk result (IsTuned cell.now.start now (hears_switches self.old.subscriptions) self.old.session seat.old.view self.new.session
+        ensures tuned { OnOk result (IsTuned cell.now.start now (hears_switches self.old.subscriptions) self.old.responder.hears seat.old.view self.new.responder.hears
             seat.new.view) }
         ensures attendant { OnOk result (self.new.attendant ≡ record self.old.attendant {
           asker = record self.old.attendant.asker { listens = is_confined self.old.attendant.asker.protocol self.old.subscriptions };
         }) }
-        ensures unsent { OnOk result (self.new.unsent.items ≡ self.old.unsent.items ++ answer.now) }
-        ensures kept { (self.new.knows_masters ≡ self.old.knows_masters) × (self.new.subscriptions ≡ self.old.subscriptions) }
+        ensures unsent { OnOk result (self.new.responder.unsent.items ≡ self.old.responder.unsent.items ++ answer.now) }
+        ensures kept { self.new.subscriptions ≡ self.old.subscriptions }
         ensures fault { IfErr result (λ fault. ((fault ≡ ServeFault.Halted) ⊎ (fault ≡ ServeFault.NoMemory))
-            × (self.new.unsent.items ≡ self.old.unsent.items)
-            × FailsAt cell.now.start now seat.old.view (Ok Command.Subscribe) fault seat.new.view) }
+            × (self.new.responder.unsent.items ≡ self.old.responder.unsent.items)
+            × FailsAt cell.now.start now seat.old.view (Ok Subscribe) fault seat.new.view) }
     {
         self.tune(rt, cell, seat, now)?;
         self.note_listening();
-        put_out(&mut self.unsent, answer)
+        self.responder.put_out(answer)
     }
 
-    /// Has a value answered: by Pub/Sub, where that has an answer to it, and else by a courtesy or the session below.
+    /// Has a value answered: by Pub/Sub, where that has an answer to it, and else by a courtesy or the responder.
     /// The answer is that of protocol 2.
     pub(crate) fn answer_value<S: ConfStore, R: Wait>(
         &mut self,
@@ -170,19 +161,18 @@ impl Exchange {
         value: &Value,
     ) -> Result<(), ServeFault>
         requires own { seat.old.cell ≡ cell.now.id }
-        requires ready { IsReady self.old.attendant self.old.subscriptions self.old.session }
+        requires ready { IsReady self.old.attendant self.old.subscriptions self.old.responder.hears }
         requires frame { IsFrame (view value.now) × HasLines (view value.now) }
         ensures own { seat.new.cell ≡ seat.old.cell }
-        ensures served { OnOk result ((more : List ℕ) × (self.new.unsent.items ≡ self.old.unsent.items ++ more)
-            × IsReady self.new.attendant self.new.subscriptions self.new.session
+        ensures served { OnOk result ((more : List ℕ) × (self.new.responder.unsent.items ≡ self.old.responder.unsent.items ++ more)
+            × IsReady self.new.attendant self.new.subscriptions self.new.responder.hears
             × ServesIn cell.now.start now self.old.attendant.asker.protocol
-            (guest_of self.old.attendant self.old.subscriptions self.old.session seat.old.view) (view value.now) more
-            (guest_of self.new.attendant self.new.subscriptions self.new.session seat.new.view)) }
+            (guest_of self.old.attendant self.old.subscriptions self.old.responder.hears seat.old.view) (view value.now) more
+            (guest_of self.new.attendant self.new.subscriptions self.new.responder.hears seat.new.view)) }
         ensures held { OnOk result (self.new.attendant.held ≡ self.old.attendant.held) }
         ensures fault { IfErr result (λ fault. ((fault ≡ ServeFault.Halted) ⊎ (fault ≡ ServeFault.NoMemory))
-            × (self.new.unsent.items ≡ self.old.unsent.items)
+            × (self.new.responder.unsent.items ≡ self.old.responder.unsent.items)
             × IsUnanswered cell.now.start now seat.old.view (view value.now) fault seat.new.view) }
-        ensures knows { self.new.knows_masters ≡ self.old.knows_masters }
     {
         let mut answer = OutText::new(self.alloc);
         match self.channel_turn(value, &mut answer)? {
@@ -196,18 +186,19 @@ impl Exchange {
 
     /// Has messages join what isn't sent yet, as the connection's protocol tells them.
     fn push_out(&mut self, messages: &[u8]) -> Result<(), ServeFault>
-        ensures ok { OnOk result (JoinsTold self.old.attendant.asker.protocol Shape.Pushes messages.now self.old.unsent.items
-            self.new.unsent.items) }
-        ensures err { OnErr result (self.new.unsent.items ≡ self.old.unsent.items) }
-        ensures session { self.new.session ≡ self.old.session }
+        ensures ok { OnOk result (JoinsTold self.old.attendant.asker.protocol Shape.Pushes messages.now self.old.responder.unsent.items
+            self.new.responder.unsent.items) }
+        ensures err { OnErr result (self.new.responder.unsent.items ≡ self.old.responder.unsent.items) }
+        ensures hears { self.new.responder.hears ≡ self.old.responder.hears }
         ensures attendant { self.new.attendant ≡ self.old.attendant }
-        ensures kept { (self.new.knows_masters ≡ self.old.knows_masters) × (self.new.subscriptions ≡ self.old.subscriptions) }
+        ensures kept { (self.new.subscriptions ≡ self.old.subscriptions)
+            × (self.new.direct ≡ self.old.direct) }
         ensures fault { IfErr result (λ fault. fault ≡ ServeFault.NoMemory) }
     {
         let protocol = self.attendant.protocol();
         put_told(
             self.alloc,
-            &mut self.unsent,
+            &mut self.responder,
             protocol,
             Shape::Pushes,
             messages,
@@ -217,11 +208,12 @@ impl Exchange {
     /// Has what the connection is told of this text, on the channel of new addresses, join what isn't sent yet.
     fn tell_switch(&mut self, text: &[u8]) -> Result<(), NoMemory>
         ensures ok { OnOk result (JoinsTold self.old.attendant.asker.protocol Shape.Pushes (spellings (told self.old.subscriptions switches text.now))
-            self.old.unsent.items self.new.unsent.items) }
-        ensures err { OnErr result (self.new.unsent.items ≡ self.old.unsent.items) }
-        ensures session { self.new.session ≡ self.old.session }
+            self.old.responder.unsent.items self.new.responder.unsent.items) }
+        ensures err { OnErr result (self.new.responder.unsent.items ≡ self.old.responder.unsent.items) }
+        ensures hears { self.new.responder.hears ≡ self.old.responder.hears }
         ensures attendant { self.new.attendant ≡ self.old.attendant }
-        ensures kept { (self.new.knows_masters ≡ self.old.knows_masters) × (self.new.subscriptions ≡ self.old.subscriptions) }
+        ensures kept { (self.new.subscriptions ≡ self.old.subscriptions)
+            × (self.new.direct ≡ self.old.direct) }
     {
         let mut told = OutText::new(self.alloc);
         let channel = Channel::SwitchMaster.name();
@@ -233,7 +225,7 @@ impl Exchange {
         }
     }
 
-    /// Tells the client of a note, where it is due to the session below: whether it is. After `NoMemory` the connection
+    /// Tells the client of a note, where it is due: whether it is. After `NoMemory` the connection
     /// is to be closed.
     pub(crate) fn notify(
         &mut self,
@@ -242,17 +234,18 @@ impl Exchange {
         entry: u64,
     ) -> Result<bool, NoMemory>
         requires master { note.now.master < length roster.now.masters }
-        requires ready { IsReady self.old.attendant self.old.subscriptions self.old.session }
-        ensures ready { IsReady self.new.attendant self.new.subscriptions self.new.session }
-        ensures told { NotifiesBelow roster.now note.now entry self.old.attendant.asker.protocol self.old.subscriptions self.old.session self.old.unsent.items result self.new.session
-            self.new.unsent.items }
+        requires ready { IsReady self.old.attendant self.old.subscriptions self.old.responder.hears }
+        ensures ready { IsReady self.new.attendant self.new.subscriptions self.new.responder.hears }
+        ensures told { NotifiesBelow roster.now note.now entry self.old.attendant.asker.protocol self.old.subscriptions self.old.responder.hears self.old.responder.unsent.items result self.new.responder.hears
+            self.new.responder.unsent.items }
         ensures attendant { self.new.attendant ≡ self.old.attendant }
-        ensures kept { (self.new.knows_masters ≡ self.old.knows_masters) × (self.new.subscriptions ≡ self.old.subscriptions) }
+        ensures kept { (self.new.subscriptions ≡ self.old.subscriptions)
+            × (self.new.direct ≡ self.old.direct) }
     {
-        if !self.session.notify(roster, note, entry)? {
+        roster.is_made();
+        if !self.responder.count_note(note, entry) {
             return Ok(false);
         }
-        self.drop_answers();
         let mut text = OutText::new(self.alloc);
         add_switch(&mut text, roster, note)?;
         self.tell_switch(text.as_slice())?;
@@ -262,10 +255,11 @@ impl Exchange {
     /// Tells the client of an event, where a channel or a pattern of the connection matches its channel: whether
     /// anything is told. After `NoMemory` nothing changed, and the client misses an event.
     pub(crate) fn tell_event(&mut self, event: &Event) -> Result<bool, NoMemory>
-        ensures told { TellsBelow event.now self.old.attendant.asker.protocol self.old.subscriptions self.old.unsent.items result self.new.unsent.items }
-        ensures session { self.new.session ≡ self.old.session }
+        ensures told { TellsBelow event.now self.old.attendant.asker.protocol self.old.subscriptions self.old.responder.unsent.items result self.new.responder.unsent.items }
+        ensures hears { self.new.responder.hears ≡ self.old.responder.hears }
         ensures attendant { self.new.attendant ≡ self.old.attendant }
-        ensures kept { (self.new.knows_masters ≡ self.old.knows_masters) × (self.new.subscriptions ≡ self.old.subscriptions) }
+        ensures kept { (self.new.subscriptions ≡ self.old.subscriptions)
+            × (self.new.direct ≡ self.old.direct) }
     {
         let mut told = OutText::new(self.alloc);
         self.subscriptions.find_out(event.channel);

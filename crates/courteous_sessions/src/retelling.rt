@@ -6,12 +6,11 @@ ghost use Rattle.resp2.specs.Framing.Frame.{view, frames_view, line_end, spellin
 ghost use Rattle.resp2.specs.Framing.Stream.{SoFar};
 ghost use Rattle.courteous_sessions.specs.Retelling.{spelling3, spellings3, map_spelling, map_spellings, table_spelling, text_spelling, push_spelling, told_as, all_told_as, is_null, without_null, AreTold, IsTold3, IsTold, JoinsTold};
 
-use crate::exchange::put_out;
 use crate::nested::{docs_in, push_command_rows, push_docs};
 use crate::shapes::Shape;
 use ballot_law::{NoMemory, Text};
-use bytes::BytesMut;
 use client_commands::Protocol;
+use port_sessions::Responder;
 use resp2::{
     FrameFault, Frames, OutText, Value, push_bulk, push_int, push_kind, push_line, push_size,
 };
@@ -313,7 +312,12 @@ fn without_null(answer: &[u8]) -> &[u8]
 }
 
 /// Has the text, which is empty, hold what protocol 3 tells of an answer.
-fn retell(alloc: Global, shape: Shape, answer: &[u8], out: &mut OutText) -> Result<(), NoMemory>
+pub(crate) fn retell(
+    alloc: Global,
+    shape: Shape,
+    answer: &[u8],
+    out: &mut OutText,
+) -> Result<(), NoMemory>
     requires { out.old ≡ [] }
     ensures { OnOk result (IsTold3 shape answer.now out.new) }
 {
@@ -330,19 +334,20 @@ fn retell(alloc: Global, shape: Shape, answer: &[u8], out: &mut OutText) -> Resu
 }
 
 /// Adds what protocol 3 tells of an answer to what isn't sent yet.
-pub(crate) fn put_retold(
+fn put_retold(
     alloc: Global,
-    unsent: &mut BytesMut,
+    responder: &mut Responder,
     shape: Shape,
     answer: &[u8],
 ) -> Result<(), ServeFault>
-    ensures ok { OnOk result (JoinsTold Protocol.Three shape answer.now unsent.old.items unsent.new.items) }
-    ensures err { OnErr result (unsent.new.items ≡ unsent.old.items) }
+    ensures ok { OnOk result (JoinsTold Protocol.Three shape answer.now responder.old.unsent.items responder.new.unsent.items) }
+    ensures err { OnErr result (responder.new.unsent.items ≡ responder.old.unsent.items) }
+    ensures hears { responder.new.hears ≡ responder.old.hears }
     ensures fault { IfErr result (λ fault. fault ≡ ServeFault.NoMemory) }
 {
     let mut told = OutText::new(alloc);
     match retell(alloc, shape, answer, &mut told) {
-        Ok(()) => put_out(unsent, told.as_slice()),
+        Ok(()) => responder.put_out(told.as_slice()),
         Err(_) => Err(ServeFault::NoMemory),
     }
 }
@@ -350,17 +355,18 @@ pub(crate) fn put_retold(
 /// Adds an answer to what isn't sent yet, as this protocol tells it.
 pub(crate) fn put_told(
     alloc: Global,
-    unsent: &mut BytesMut,
+    responder: &mut Responder,
     protocol: Protocol,
     shape: Shape,
     answer: &[u8],
 ) -> Result<(), ServeFault>
-    ensures ok { OnOk result (JoinsTold protocol shape answer.now unsent.old.items unsent.new.items) }
-    ensures err { OnErr result (unsent.new.items ≡ unsent.old.items) }
+    ensures ok { OnOk result (JoinsTold protocol shape answer.now responder.old.unsent.items responder.new.unsent.items) }
+    ensures err { OnErr result (responder.new.unsent.items ≡ responder.old.unsent.items) }
+    ensures hears { responder.new.hears ≡ responder.old.hears }
     ensures fault { IfErr result (λ fault. fault ≡ ServeFault.NoMemory) }
 {
     match protocol {
-        Protocol::Two => put_out(unsent, answer),
-        Protocol::Three => put_retold(alloc, unsent, shape, answer),
+        Protocol::Two => responder.put_out(answer),
+        Protocol::Three => put_retold(alloc, responder, shape, answer),
     }
 }

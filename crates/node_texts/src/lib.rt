@@ -22,5 +22,5 @@ pub use faults::TextFault;
 pub use hellos::{read_hello, write_hello};
 pub use info_fields::law_counts;
 pub use infos::{read_info, write_info};
-pub use messages::{copy_of, event_of, message_text};
+pub use messages::{ShortAnswer, copy_of, event_of, message_text, short_text};
 pub use roles::{read_role, write_role};

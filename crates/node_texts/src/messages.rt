@@ -17,4 +17,5 @@ mod texts;
 
 pub use copies::copy_of;
 pub use events::event_of;
-pub use texts::message_text;
+pub use short_answer::ShortAnswer;
+pub use texts::{message_text, short_text};

@@ -26,7 +26,7 @@ use ballot_law::{
     Output, Roster, Shown,
 };
 use bytes::BytesMut;
-use node_texts::message_text;
+use node_texts::{message_text, short_text};
 use port_answers::AnswerText;
 use resp2::{CommandFault, FrameFault, OutText};
 use sentinel_cell::{ActFault, Seat, SharedSentinel};
@@ -112,13 +112,19 @@ fn address_answer(shown: Option<Shown>) -> Message
     }
 }
 
-/// Adds this message to what isn't sent yet.
+/// Adds this message to what isn't sent yet: a text that the Sentinel made, and a short answer, with one copy.
 fn put_message(alloc: Global, message: &Message, unsent: &mut BytesMut) -> Result<(), ServeFault>
     requires { IsWritable message.now.body }
     ensures ok { OnOk result (unsent.new.items ≡ unsent.old.items ++ message_bytes message.now.body) }
     ensures err { OnErr result (unsent.new.items ≡ unsent.old.items) }
     ensures fault { IfErr result (λ fault. fault ≡ ServeFault.NoMemory) }
 {
+    if let Body::PortReply { text, .. } = &message.body {
+        return put(unsent, text.as_slice());
+    }
+    if let Some(short) = short_text(alloc, &message.body) {
+        return put(unsent, short.as_slice());
+    }
     let mut text = OutText::new(alloc);
     match message_text(alloc, message, &mut text) {
         Ok(()) => put(unsent, text.as_slice()),

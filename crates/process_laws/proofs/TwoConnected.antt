@@ -27,6 +27,7 @@ use Rattle.ballot_law.proofs.WordLemmas.{run_id-id_text, length-id_text}
 use Rattle.client_commands.specs.declared.protocols.Protocol.TheVariants.{Two}
 use Rattle.client_commands.specs.Courtesies.{ClientInfo, Answer as Becomes, courtesy}
 use Rattle.client_commands.proofs.OwnValues.{own_is_left, own_is_same}
+use Rattle.sentinel_rules.specs.Plans.{roster_of}
 use Rattle.courteous_sessions.specs.Epochs.{heard, heard_as}
 use Rattle.courteous_sessions.specs.Visits.{Guest, guest, unsubscribed, channel_turn, Answers, ServesBy, Tells as TellsClient}
 use Rattle.courteous_sessions.proofs.Keeping.{hears_all}
@@ -180,7 +181,6 @@ client =
       name = [];
       protocol = Two;
       listens = false;
-      masters = [];
       password = None;
       admitted = true;
       current = None;
@@ -199,7 +199,6 @@ client =
                   commands = 0;
                   user_time = 0;
                   system_time = 0;
-                  tilt = None;
                 };
             clients = [];
             killed = [];
@@ -272,8 +271,8 @@ module _ (now : ℕ) (command : Command) (front : List Entry) (e : Entry) where
       subst (λ (c : Command). Responds other_world now p (Ok c) bytes q) (sym (hears_all command)) responds in
       let asked_it : Responds other_world now p (heard_as None (redis_command_of value)) bytes q =
       subst (λ (r : Result Command CommandFault). Responds other_world now p (heard_as None r) bytes q) (sym is) heard_it in
-      let answers_it : Answers other_world now client (courtesy client value) p value bytes q =
-      subst (λ (a : Becomes). Answers other_world now client a p value bytes q) (sym (own_is_left client value command refl is)) asked_it in
+      let answers_it : Answers other_world now client (courtesy (roster_of other_world.plan) client value) p value bytes q =
+      subst (λ (a : Becomes). Answers other_world now client a p value bytes q) (sym (own_is_left (roster_of other_world.plan) client value command refl is)) asked_it in
       let after = sym (ap (λ (a : ClientInfo). guest q unsubscribed [] a) (own_is_same client value command is)) in (
         bytes,
         subst (λ (t : ChannelAnswer). ServesBy other_world now t (guest_at front) value bytes (guest_at (front ++ e ∷ []))) (sym none) (q, answers_it, after),

@@ -1,6 +1,6 @@
 //! Messages as the bytes that stand on the wire.
 
-ghost use Rattle.std.specs.Prelude.{◌≡◌, ◌++◌, OnOk, OnErr};
+ghost use Rattle.std.specs.Prelude.{◌≡◌, ◌++◌, IfSome, OnOk, OnErr};
 ghost use Rattle.node_texts.specs.Messages.MessageTexts.{message_bytes, IsWritable};
 
 use crate::messages::bodies::push_body;
@@ -33,17 +33,19 @@ fn add_parts(alloc: Global, body: &Body, text: &mut OutText) -> Result<(), NoMem
     }
 }
 
-/// Adds what a message says at once, from room on the stack, where it has room there; `NoMemory` leaves the text
-/// unchanged.
-fn add_short(alloc: Global, body: &Body, text: &mut OutText) -> Result<(), NoMemory>
+/// What a message says as it stands on the wire, in room on the stack, where it is one of the answers that a port gives
+/// most often and is short enough. The caller sees to what it says as for `message_text`.
+pub fn short_text(alloc: Global, body: &Body) -> Option<ShortAnswer>
     requires { IsWritable body.now }
-    ensures ok { OnOk result (text.new ≡ text.old ++ message_bytes body.now) }
-    ensures err { OnErr result (text.new ≡ text.old) }
+    ensures { IfSome result (λ short. short ≡ message_bytes body.now) }
 {
+    if !is_short(body) {
+        return None;
+    }
     let mut short = ShortAnswer::new();
     match push_body(&mut short, alloc, body) {
-        Ok(()) => text.add(short.as_slice()),
-        Err(_) => add_parts(alloc, body, text),
+        Ok(()) => Some(short),
+        Err(_) => None,
     }
 }
 
@@ -57,9 +59,8 @@ pub fn message_text(alloc: Global, message: &Message, text: &mut OutText) -> Res
     ensures ok { OnOk result (text.new ≡ text.old ++ message_bytes message.now.body) }
     ensures err { OnErr result (text.new ≡ text.old) }
 {
-    if is_short(&message.body) {
-        add_short(alloc, &message.body, text)
-    } else {
-        add_parts(alloc, &message.body, text)
+    match short_text(alloc, &message.body) {
+        Some(short) => text.add(short.as_slice()),
+        None => add_parts(alloc, &message.body, text),
     }
 }

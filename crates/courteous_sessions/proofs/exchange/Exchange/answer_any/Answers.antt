@@ -16,7 +16,7 @@ returns-in-Ok-clause-answered g c = λ stream first bytes visitor is a.
     let before = c.args.self.now in
     let after = c.tell_value.new.self in
     step_answered c.args.cell.now.start c.args.now view c.in-Ok-Some.value stream first bytes visitor before.attendant c.next.new.self after.attendant before.subscriptions
-    after.subscriptions before.unsent.items after.unsent.items before.session after.session c.args.seat.now.view c.tell_value.new.seat.view is a c.requires.ready
+    after.subscriptions before.responder.unsent.items after.responder.unsent.items before.responder.hears after.responder.hears c.args.seat.now.view c.tell_value.new.seat.view is a c.requires.ready
     (rw c.in-Ok-Some.field-0-is at c.in-Ok-Some.ensures.exact) c.next.ensures.asker c.in-Ok.ensures.held c.in-Ok.ensures.served
 
 pub returns-in-Ok-Some-clause-answered : goal.returns-in-Ok-Some-clause-answered
@@ -28,6 +28,6 @@ returns-in-Ok-Some-clause-answered g c = λ stream first bytes visitor is a.
       bytes,
       ended.1 ∙ is,
       lost_here c.args.cell.now.start c.args.now stream visitor before.attendant.held bytes
-          (guest_of before.attendant before.subscriptions before.session c.args.seat.now.view) (view c.in-Ok-Some.value) at.0 c.in-Err-tell_value.fault c.tell_value.new.seat.view a
+          (guest_of before.attendant before.subscriptions before.responder.hears c.args.seat.now.view) (view c.in-Ok-Some.value) at.0 c.in-Err-tell_value.fault c.tell_value.new.seat.view a
           at.1 ended.0 ended.2,
     )

@@ -19,8 +19,8 @@ attend_to-requires-clause-ready g c =
     let same = c.channel_turn.new.self in
     let turn = channel_turn before.attendant.asker before.subscriptions (view c.args.value.now) in
     let none = other_turn turn (sym c.in-Other.is ∙ c.in_ok-channel_turn.ensures.turn) in
-    ready_same before.attendant same.attendant before.subscriptions same.subscriptions before.session same.session c.requires.ready c.channel_turn.ensures.attendant
-    (listens_on before.subscriptions same.subscriptions turn none c.in_ok-channel_turn.ensures.after) c.channel_turn.ensures.session
+    ready_same before.attendant same.attendant before.subscriptions same.subscriptions before.responder.hears same.responder.hears c.requires.ready c.channel_turn.ensures.attendant
+    (listens_on before.subscriptions same.subscriptions turn none c.in_ok-channel_turn.ensures.after) c.channel_turn.ensures.hears
 
 pub attend_to-requires-clause-other : goal.attend_to-requires-clause-other
 attend_to-requires-clause-other g c =
@@ -39,8 +39,8 @@ attend_beside-requires-clause-ready g c =
     let same = c.channel_turn.new.self in
     let turn = channel_turn before.attendant.asker before.subscriptions (view c.args.value.now) in
     let none = other_turn turn (sym c.in-Other.is ∙ c.in_ok-channel_turn.ensures.turn) in
-    ready_same before.attendant same.attendant before.subscriptions same.subscriptions before.session same.session c.requires.ready c.channel_turn.ensures.attendant
-    (listens_on before.subscriptions same.subscriptions turn none c.in_ok-channel_turn.ensures.after) c.channel_turn.ensures.session
+    ready_same before.attendant same.attendant before.subscriptions same.subscriptions before.responder.hears same.responder.hears c.requires.ready c.channel_turn.ensures.attendant
+    (listens_on before.subscriptions same.subscriptions turn none c.in_ok-channel_turn.ensures.after) c.channel_turn.ensures.hears
 
 pub attend_beside-requires-clause-other : goal.attend_beside-requires-clause-other
 attend_beside-requires-clause-other g c =
@@ -63,11 +63,11 @@ returns-in-Two-clause-served g c =
     in
     on_ok c.attend_to.result
     (λ served.
-    served_same c.args.cell.now.start c.args.now Two before.attendant.asker.protocol before.attendant same.attendant before.subscriptions same.subscriptions before.session
-    same.session c.args.seat.now.view (view c.args.value.now) before.unsent.items same.unsent.items after.unsent.items
-    (guest_of after.attendant after.subscriptions after.session c.attend_to.new.seat.view) speaks c.channel_turn.ensures.attendant
-    (listens_on before.subscriptions same.subscriptions turn none c.in_ok-channel_turn.ensures.after) c.channel_turn.ensures.session
-    (ap (λ u. u.items) c.channel_turn.ensures.unsent.0) served)
+    served_same c.args.cell.now.start c.args.now Two before.attendant.asker.protocol before.attendant same.attendant before.subscriptions same.subscriptions before.responder.hears
+    same.responder.hears c.args.seat.now.view (view c.args.value.now) before.responder.unsent.items same.responder.unsent.items after.responder.unsent.items
+    (guest_of after.attendant after.subscriptions after.responder.hears c.attend_to.new.seat.view) speaks c.channel_turn.ensures.attendant
+    (listens_on before.subscriptions same.subscriptions turn none c.in_ok-channel_turn.ensures.after) c.channel_turn.ensures.hears
+    (c.channel_turn.ensures.unsent) served)
     c.attend_to.ensures.served
 
 pub returns-clause-served : goal.returns-clause-served
@@ -82,20 +82,20 @@ returns-clause-served g c =
     in
     on_ok c.attend_beside.result
     (λ served.
-    served_same c.args.cell.now.start c.args.now Three before.attendant.asker.protocol before.attendant same.attendant before.subscriptions same.subscriptions before.session
-    same.session c.args.seat.now.view (view c.args.value.now) before.unsent.items same.unsent.items after.unsent.items
-    (guest_of after.attendant after.subscriptions after.session c.attend_beside.new.seat.view) speaks c.channel_turn.ensures.attendant
-    (listens_on before.subscriptions same.subscriptions turn none c.in_ok-channel_turn.ensures.after) c.channel_turn.ensures.session
-    (ap (λ u. u.items) c.channel_turn.ensures.unsent.0) served)
+    served_same c.args.cell.now.start c.args.now Three before.attendant.asker.protocol before.attendant same.attendant before.subscriptions same.subscriptions before.responder.hears
+    same.responder.hears c.args.seat.now.view (view c.args.value.now) before.responder.unsent.items same.responder.unsent.items after.responder.unsent.items
+    (guest_of after.attendant after.subscriptions after.responder.hears c.attend_beside.new.seat.view) speaks c.channel_turn.ensures.attendant
+    (listens_on before.subscriptions same.subscriptions turn none c.in_ok-channel_turn.ensures.after) c.channel_turn.ensures.hears
+    (c.channel_turn.ensures.unsent) served)
     c.attend_beside.ensures.served
 
 pub returns-in-Said-clause-fault : goal.returns-in-Said-clause-fault
 returns-in-Said-clause-fault g c =
     subscribed_lost c.args.cell.now.start c.args.now c.confirm.result (view c.args.value.now) c.args.seat.now.view c.confirm.new.seat.view
-    (λ same. same ∙ ap (λ u. u.items) c.channel_turn.ensures.unsent.0) c.confirm.ensures.fault
+    (λ same. same ∙ c.channel_turn.ensures.unsent) c.confirm.ensures.fault
 
 pub returns-in_err-channel_turn-clause-fault : goal.returns-in_err-channel_turn-clause-fault
 returns-in_err-channel_turn-clause-fault g c =
     let p = err_from_is_err_and c.from_residual.result c.from_residual.ensures.1 in
     let why : p.0 ≡ NoMemory = let q = p.2 in let s = c.in_err-channel_turn.ensures.fault in cc in
-    gave_up c.args.cell.now.start c.args.now c.from_residual.result p.0 (view c.args.value.now) c.args.seat.now.view p.1 why (ap (λ u. u.items) c.channel_turn.ensures.unsent.0)
+    gave_up c.args.cell.now.start c.args.now c.from_residual.result p.0 (view c.args.value.now) c.args.seat.now.view p.1 why (c.channel_turn.ensures.unsent)

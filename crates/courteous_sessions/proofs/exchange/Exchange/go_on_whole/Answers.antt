@@ -9,30 +9,29 @@ loop-self-preserved g c =
     let after = c.go_on_next.new in (
       c.go_on_next.ensures.own ∙ so_far.0,
       c.in-Ok-None.ensures.ready,
-      c.go_on_next.ensures.knows ∙ so_far.2,
       c.go_on_next.ensures.mark (c.in-Ok-None.is ∙ ap Ok c.in-Ok-None.field-0-is),
       λ most stream before bytes visitor is a.
-          let on = so_far.4 most stream before bytes visitor is a in
+          let on = so_far.3 most stream before bytes visitor is a in
           let next = c.in-Ok-None.ensures.answered most stream before on.0 visitor on.1 on.2 in (
             next.0,
             next.1,
             went_on c.args.cell.now.start c.args.now most stream visitor c.in-Ok-None.field-0 after.limit.most after.self.attendant.held next.0
-                (guest_of after.self.attendant after.self.subscriptions after.self.session after.seat.view) c.in-Ok-None.field-0-is next.2,
+                (guest_of after.self.attendant after.self.subscriptions after.self.responder.hears after.seat.view) c.in-Ok-None.field-0-is next.2,
           ),
     )
 
 pub returns-in-Ok-Some-clause-answered : goal.returns-in-Ok-Some-clause-answered
 returns-in-Ok-Some-clause-answered g c = λ most stream before bytes visitor is a.
     let after = c.go_on_next.new in
-    let on = c.loop-self.invariant.4 most stream before bytes visitor is a in
+    let on = c.loop-self.invariant.3 most stream before bytes visitor is a in
     let next = c.in-Ok-Some.ensures.answered most stream before on.0 visitor on.1 on.2 in (
       next.0,
       next.1,
       stopped c.args.cell.now.start c.args.now most stream visitor c.in-Ok-Some.field-0 c.in-Ok-Some.progress after.limit.most after.self.attendant.held next.0
-          (guest_of after.self.attendant after.self.subscriptions after.self.session after.seat.view) c.in-Ok-Some.field-0-is next.2,
+          (guest_of after.self.attendant after.self.subscriptions after.self.responder.hears after.seat.view) c.in-Ok-Some.field-0-is next.2,
     )
 
 pub returns-in-Err-clause-answered : goal.returns-in-Err-clause-answered
 returns-in-Err-clause-answered g c = λ most stream before bytes visitor is a.
-    let on = c.loop-self.invariant.4 most stream before bytes visitor is a in
+    let on = c.loop-self.invariant.3 most stream before bytes visitor is a in
     c.in-Err.ensures.answered most stream before on.0 visitor on.1 on.2

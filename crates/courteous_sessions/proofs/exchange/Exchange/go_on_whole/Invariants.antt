@@ -5,19 +5,18 @@ use Rattle.courteous_sessions.specs.OnTheWay.{IsReady, guest_of}
 use Rattle.courteous_sessions.specs.GoingOn.{IsWithin}
 use Rattle.courteous_sessions.proofs.exchange.Exchange.go_on_whole.Given as goal
 
--- the session below is ready, the limit stands where the next value begins, and what was within it is so still, with more answers
+-- the responder is ready, the limit stands where the next value begins, and what was within it is so still, with more answers
 abbrev pub invariant-loop-self : goal.invariant-loop-self
 invariant-loop-self g l =
     (l.seat.cell ≡ l.initial.seat.cell)
-    × IsReady l.self.attendant l.self.subscriptions l.self.session
-    × (l.self.knows_masters ≡ l.initial.self.knows_masters)
+    × IsReady l.self.attendant l.self.subscriptions l.self.responder.hears
     × (l.limit.mark ≡ l.self.attendant.held)
-    × ((most : ℕ) (stream before bytes : List ℕ) (visitor : Guest) → l.initial.self.unsent.items ≡ before ++ bytes
+    × ((most : ℕ) (stream before bytes : List ℕ) (visitor : Guest) → l.initial.self.responder.unsent.items ≡ before ++ bytes
     → IsWithin l.fn.cell.start l.fn.now most stream visitor l.initial.limit.most l.initial.self.attendant.held bytes
-    (guest_of l.initial.self.attendant l.initial.self.subscriptions l.initial.self.session l.initial.seat.view)
-    → (more : List ℕ) × (l.self.unsent.items ≡ before ++ more)
+    (guest_of l.initial.self.attendant l.initial.self.subscriptions l.initial.self.responder.hears l.initial.seat.view)
+    → (more : List ℕ) × (l.self.responder.unsent.items ≡ before ++ more)
     × IsWithin l.fn.cell.start l.fn.now most stream visitor l.limit.most l.self.attendant.held more
-    (guest_of l.self.attendant l.self.subscriptions l.self.session l.seat.view))
+    (guest_of l.self.attendant l.self.subscriptions l.self.responder.hears l.seat.view))
 
 abbrev pub decreases-loop-self : goal.decreases-loop-self
 decreases-loop-self g l = held_size l.self.attendant.held

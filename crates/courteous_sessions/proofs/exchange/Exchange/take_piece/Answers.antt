@@ -1,35 +1,49 @@
-use Rattle.std.proofs.Common.{◌∙◌, ap, sym}
-use Rattle.courteous_sessions.proofs.Stepping.{ok_of, piece_received}
-use Rattle.std.proofs.Common.{◌++◌, [], append-nil, refl, inl}
-use Rattle.port_sessions.specs.Talks.{party}
-use Rattle.resp2.specs.Framing.Stream.{bytes_in}
-use Rattle.courteous_sessions.specs.Visits.{guest, introduced}
+use Rattle.std.proofs.Common.{◌∙◌, ◌++◌, ap, sym, subst}
+use Rattle.client_commands.specs.Attendants.{Attendance}
+use Rattle.resp2.specs.Framing.Stream.{reading, bytes_in}
+use Rattle.courteous_sessions.specs.OnTheWay.{IsOnTheWay, guest_of}
+use Rattle.courteous_sessions.proofs.InPlace.{no_rest, done_in_place, breaks_anyway}
+use Rattle.courteous_sessions.proofs.Serving.{was_received}
 use Rattle.courteous_sessions.proofs.exchange.Exchange.take_piece.Goals as goal
 
-pub returns-clause-received : goal.returns-clause-received
-returns-clause-received g c =
+pub returns-then-is_empty-clause-received : goal.returns-then-is_empty-clause-received
+returns-then-is_empty-clause-received g c =
     let before = c.args.self.now in
-    let known = c.learn_masters.new.self in
-    let after = c.answer_whole.new.self in
-    piece_received c.args.cell.now.start c.args.now c.feed.result c.answer_whole.result before.attendant known.attendant c.feed.new.self after.attendant before.subscriptions
-    known.subscriptions after.subscriptions before.knows_masters c.args.piece.now before.unsent.items known.unsent.items after.unsent.items before.session known.session
-    after.session c.args.seat.now.view c.answer_whole.new.seat.view c.requires.ready.reads
-    (ok_of c.learn_masters.result (sym c.is_err.ensures.value ∙ c.if-is_err.false) c.learn_masters.ensures.attendant) c.feed.ensures.asker
-    (sym c.is_err-2.ensures.value ∙ c.if-is_err-2.false) c.feed.ensures.held (ap (λ u. u.items) c.learn_masters.ensures.unsent) c.learn_masters.ensures.session.0
-    c.learn_masters.ensures.session.1 c.answer_whole.ensures.answered
+    let after = c.answer_in_place.new.self in
+    let kept = c.answer_in_place.ensures.kept in
+    let got = c.in-Ok.ensures.answered 0 in (
+      got.0,
+      got.1,
+      (done_in_place c.args.cell.now.start c.args.now 0 (bytes_in before.attendant.held ++ c.args.piece.now)
+          (guest_of before.attendant before.subscriptions before.responder.hears c.args.seat.now.view) before.attendant.held after.attendant.held c.in-Ok.rest.now got.0
+          (guest_of after.attendant after.subscriptions after.responder.hears c.answer_in_place.new.seat.view) (c.requires.direct (sym kept.2 ∙ c.if-self.true)).none_held
+          (no_rest c.in-Ok.rest.now (sym c.is_empty.ensures ∙ c.if-is_empty.true)) (ap (λ (x : Attendance). x.held) kept.0) got.2).answered,
+    )
 
-pub returns-then-is_err-2-clause-received : goal.returns-then-is_err-2-clause-received
-returns-then-is_err-2-clause-received g c =
-    let before = c.args.self.now in (
-      [],
-      ap (λ u. u.items) c.learn_masters.ensures.unsent ∙ sym (append-nil before.unsent.items),
-      record {
-        values = [];
-        rest = bytes_in before.attendant.held ++ c.args.piece.now;
-        parts = refl;
-        last = guest (party c.args.seat.now.view before.session.listens) before.subscriptions before.session.told
-            (introduced c.args.cell.now.start before.knows_masters before.attendant.asker);
-        answers = (refl, refl);
-        sees = inl refl;
-      },
+pub returns-else-self-clause-received : goal.returns-else-self-clause-received
+returns-else-self-clause-received g c =
+    let before = c.args.self.now in
+    let mid = c.answer_in_place.new.self in
+    let after = c.take_rest.new.self in
+    let stream = bytes_in before.attendant.held ++ c.args.piece.now in
+    let visitor = guest_of before.attendant before.subscriptions before.responder.hears c.args.seat.now.view in
+    let got = c.in-Ok.ensures.answered 0 in
+    let there = subst (λ (x : Attendance). IsOnTheWay c.args.cell.now.start c.args.now stream visitor (reading (bytes_in x.held ++ c.in-Ok.rest.now)) got.0
+    (guest_of mid.attendant mid.subscriptions mid.responder.hears c.answer_in_place.new.seat.view)) (sym c.answer_in_place.ensures.kept.0) got.2.so_far
+    in
+    let done = c.take_rest.ensures.answered stream before.responder.unsent.items got.0 visitor got.1 there in (
+      done.0,
+      done.1,
+      was_received c.args.cell.now.start c.args.now c.take_rest.result stream visitor after.attendant.held done.0
+          (guest_of after.attendant after.subscriptions after.responder.hears c.take_rest.new.seat.view) done.2,
+    )
+
+pub returns-in-Err-clause-received : goal.returns-in-Err-clause-received
+returns-in-Err-clause-received g c =
+    let before = c.args.self.now in
+    let got = c.in-Err.ensures.answered 0 in (
+      got.0,
+      got.1,
+      breaks_anyway c.args.cell.now.start c.args.now 0 (bytes_in before.attendant.held ++ c.args.piece.now)
+          (guest_of before.attendant before.subscriptions before.responder.hears c.args.seat.now.view) c.in-Err.fault got.0 c.answer_in_place.new.seat.view got.2,
     )

@@ -1,38 +1,43 @@
-use Rattle.std.proofs.Common.{◌++◌, ◌∙◌, ap, sym}
-use Rattle.resp2.specs.Framing.Stream.{bytes_in}
-use Rattle.port_sessions.specs.Talks.{party}
-use Rattle.courteous_sessions.specs.Visits.{guest, introduced}
-use Rattle.courteous_sessions.proofs.GoingOn.{none_taken, piece_within}
-use Rattle.courteous_sessions.proofs.Stepping.{ok_of}
+use Rattle.std.proofs.Common.{◌∙◌, ◌++◌, ap, sym, subst}
+use Rattle.client_commands.specs.Attendants.{Attendance}
+use Rattle.resp2.specs.Framing.Stream.{reading, bytes_in}
+use Rattle.courteous_sessions.specs.GoingOn.{IsWithin}
+use Rattle.courteous_sessions.specs.OnTheWay.{guest_of}
+use Rattle.courteous_sessions.proofs.GoingOn.{was_taken}
+use Rattle.courteous_sessions.proofs.InPlace.{no_rest, done_in_place}
 use Rattle.courteous_sessions.proofs.exchange.Exchange.take_some.Goals as goal
 
-pub returns-then-is_err-clause-received : goal.returns-then-is_err-clause-received
-returns-then-is_err-clause-received g c =
+pub returns-then-is_empty-clause-received : goal.returns-then-is_empty-clause-received
+returns-then-is_empty-clause-received g c =
     let before = c.args.self.now in
-    let none = none_taken c.args.cell.now.start c.args.now c.args.most (bytes_in before.attendant.held ++ c.args.piece.now)
-    (guest (party c.args.seat.now.view before.session.listens) before.subscriptions before.session.told (introduced c.args.cell.now.start before.knows_masters
-    before.attendant.asker)) before.unsent.items
-    in
-    (none.0, ap (λ u. u.items) c.learn_masters.ensures.unsent ∙ none.1, none.2)
+    let after = c.answer_in_place.new.self in
+    let kept = c.answer_in_place.ensures.kept in
+    let got = c.in-Ok.ensures.answered c.args.most in (
+      got.0,
+      got.1,
+      done_in_place c.args.cell.now.start c.args.now c.args.most (bytes_in before.attendant.held ++ c.args.piece.now)
+          (guest_of before.attendant before.subscriptions before.responder.hears c.args.seat.now.view) before.attendant.held after.attendant.held c.in-Ok.rest.now got.0
+          (guest_of after.attendant after.subscriptions after.responder.hears c.answer_in_place.new.seat.view) (c.requires.direct (sym kept.2 ∙ c.if-self.true)).none_held
+          (no_rest c.in-Ok.rest.now (sym c.is_empty.ensures ∙ c.if-is_empty.true)) (ap (λ (x : Attendance). x.held) kept.0) got.2,
+    )
 
-pub returns-in_default-clause-received : goal.returns-in_default-clause-received
-returns-in_default-clause-received g c =
+pub returns-else-self-clause-received : goal.returns-else-self-clause-received
+returns-else-self-clause-received g c =
     let before = c.args.self.now in
-    let none = none_taken c.args.cell.now.start c.args.now c.args.most (bytes_in before.attendant.held ++ c.args.piece.now)
-    (guest (party c.args.seat.now.view before.session.listens) before.subscriptions before.session.told (introduced c.args.cell.now.start before.knows_masters
-    before.attendant.asker)) before.unsent.items
+    let mid = c.answer_in_place.new.self in
+    let after = c.take_some_rest.new.self in
+    let stream = bytes_in before.attendant.held ++ c.args.piece.now in
+    let visitor = guest_of before.attendant before.subscriptions before.responder.hears c.args.seat.now.view in
+    let got = c.in-Ok.ensures.answered c.args.most in
+    let there = subst (λ (x : Attendance). IsWithin c.args.cell.now.start c.args.now c.args.most stream visitor c.args.most (reading (bytes_in x.held ++ c.in-Ok.rest.now)) got.0
+    (guest_of mid.attendant mid.subscriptions mid.responder.hears c.answer_in_place.new.seat.view)) (sym c.answer_in_place.ensures.kept.0) got.2
     in
-    (none.0, ap (λ u. u.items) (c.feed_within.ensures.unsent ∙ c.learn_masters.ensures.unsent) ∙ none.1, none.2)
+    let done = c.take_some_rest.ensures.answered stream before.responder.unsent.items got.0 visitor got.1 there in (
+      done.0,
+      done.1,
+      was_taken c.args.cell.now.start c.args.now c.args.most stream visitor c.take_some_rest.result after.attendant.held done.0
+          (guest_of after.attendant after.subscriptions after.responder.hears c.take_some_rest.new.seat.view) done.2,
+    )
 
-pub returns-clause-received : goal.returns-clause-received
-returns-clause-received g c =
-    let before = c.args.self.now in
-    let known = c.learn_masters.new.self in
-    let fed = c.feed_within.new.self in
-    let after = c.go_on_whole.new.self in
-    piece_within c.args.cell.now.start c.args.now c.args.most c.in-Ok.limit.most c.go_on_whole.result before.attendant known.attendant fed.attendant after.attendant
-    before.subscriptions fed.subscriptions after.subscriptions before.knows_masters c.args.piece.now before.unsent.items fed.unsent.items after.unsent.items before.session
-    fed.session after.session c.args.seat.now.view c.go_on_whole.new.seat.view
-    (ok_of c.learn_masters.result (sym c.is_err.ensures.value ∙ c.if-is_err.false) c.learn_masters.ensures.attendant) c.feed_within.ensures.asker c.in-Ok.ensures.fed
-    c.in-Ok.ensures.limit.1 (ap (λ u. u.items) (c.feed_within.ensures.unsent ∙ c.learn_masters.ensures.unsent))
-    (c.feed_within.ensures.session ∙ c.learn_masters.ensures.session.0) (c.feed_within.ensures.kept.1 ∙ c.learn_masters.ensures.session.1) c.go_on_whole.ensures.answered
+pub returns-in-Err-clause-received : goal.returns-in-Err-clause-received
+returns-in-Err-clause-received g c = c.in-Err.ensures.answered c.args.most

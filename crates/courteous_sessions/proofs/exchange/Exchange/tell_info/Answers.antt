@@ -1,40 +1,29 @@
-use Rattle.std.proofs.Common.{◌∙◌, ◌++◌, ap, sym, List, [], ℕ}
+use Rattle.std.proofs.Common.{◌∙◌, ◌++◌, ap, sym, subst, take, length, List, ℕ, Ok}
+use Rattle.ballot_law.specs.declared.commands.Command.TheVariants.{Info}
 use Rattle.client_commands.specs.Attendants.{Attendance}
-use Rattle.port_sessions.specs.Talks.{Talk}
-use Rattle.courteous_sessions.proofs.Stepping.{on_ok, ok_of, masters_told}
-use Rattle.resp2.specs.Framing.Frame.{view}
-use Rattle.std.proofs.Common.{inr, refl, Ok}
-use Rattle.ballot_law.specs.declared.commands.Command.TheVariants.{Masters}
-use Rattle.courteous_sessions.proofs.Values.{unput, unput_at}
+use Rattle.client_commands.specs.Infos.{info}
+use Rattle.port_sessions.specs.declared.hearing.Hearing.{Hearing}
+use Rattle.port_sessions.specs.Talks.{party, Responds}
+use Rattle.resp2.specs.Framing.Frame.{view, spelling}
+use Rattle.courteous_sessions.proofs.Stepping.{on_ok, info_asked}
 use Rattle.courteous_sessions.proofs.exchange.Exchange.tell_info.Goals as goal
 
-pub returns-clause-answered : goal.returns-clause-answered
-returns-clause-answered g c =
+pub returns-in-Ok-clause-answered : goal.returns-in-Ok-clause-answered
+returns-in-Ok-clause-answered g c =
     let before = c.args.self.now in
-    let asked = c.ask.new.session in
-    let kept = c.drop_answers.new.self in
+    let asked = c.ask.new.self in
+    let n = length c.unsent-start.result.now in
+    let value = view c.args.value.now in
+    let p = party c.args.seat.now.view before.responder.hears.listens in
+    let turned = c.in_ok-ask.ensures.answered in
+    let told = c.in-Ok.ensures.text in
+    let hears = c.put_out.ensures.hears ∙ c.cut_back.ensures.hears ∙ c.inform-informed.ensures.hears in
+    let left = c.cut_back.ensures.unsent ∙ ap (λ (t : List ℕ). take n t) c.inform-informed.ensures.unsent in
     on_ok c.put_out.result
     (λ put.
-    let told = ok_of c.inform.result (sym c.is_err.ensures.value ∙ c.if-is_err.false) c.inform.ensures.text in
-    masters_told c.args.cell.now.start c.args.now before.attendant.asker.port.figures (view c.args.value.now) before.session asked kept.session c.args.seat.now.view c.ask.new.seat.view before.unsent.items
-    c.put_out.new.unsent.items kept.attendant.text c.in_ok-ask.ensures.answered c.in_ok-ask.ensures.goes_on
-    (c.drop_answers.ensures.session ∙ ap (λ (t : Talk). let s : Talk = record t { unsent = [] } in s) c.inform.ensures.session)
-    (told.0, told.1, ap (λ (a : Attendance). a.text) c.drop_answers.ensures.attendant ∙ told.2)
-    (put
-    ∙ ap (λ (t : List ℕ). kept.unsent.items ++ t) c.text.ensures
-    ∙ ap (λ u. u.items ++ kept.attendant.text) (c.drop_answers.ensures.unsent ∙ c.inform.ensures.unsent)))
+    info_asked c.args.cell.now.start c.args.now n before.attendant.asker.port.figures value p (party c.ask.new.seat.view c.put_out.new.self.hears.listens)
+    before.responder.unsent.items asked.responder.unsent.items c.put_out.new.self.unsent.items c.inform-informed.new.self.attendant.text (ap length c.unsent-start.ensures)
+    (turned.0, turned.1, subst (λ (h : Hearing). Responds c.args.cell.now.start c.args.now p (Ok Info) turned.0 (party c.ask.new.seat.view h.listens)) (sym hears) turned.2)
+    (told.0, told.1, told.2 ∙ ap (λ (a : Attendance). spelling (info a.asker.port.figures value told.0)) c.ask.ensures.kept.0)
+    (put ∙ ap (λ (t : List ℕ). t ++ c.text.result.now) left ∙ ap (λ (t : List ℕ). take n asked.responder.unsent.items ++ t) c.text.ensures))
     c.put_out.ensures.ok
-
-pub returns-then-is_err-clause-fault : goal.returns-then-is_err-clause-fault
-returns-then-is_err-clause-fault g c =
-    let asked = c.ask.new.session in (
-      inr refl,
-      unput_at c.args.cell.now.start c.args.now (Ok Masters) c.args.seat.now.view c.ask.new.seat.view c.args.self.now.session.listens asked.listens asked.unsent
-          c.in_ok-ask.ensures.answered.0,
-    )
-
-pub returns-clause-fault : goal.returns-clause-fault
-returns-clause-fault g c =
-    let asked = c.ask.new.session in
-    unput c.args.cell.now.start c.args.now c.put_out.result (Ok Masters) c.args.seat.now.view c.ask.new.seat.view c.args.self.now.session.listens asked.listens asked.unsent
-    c.in_ok-ask.ensures.answered.0 c.put_out.ensures.fault

@@ -1,4 +1,4 @@
-use Rattle.std.proofs.Common.{◌≡◌, ◌∙◌, sym, subst, take, drop}
+use Rattle.std.proofs.Common.{◌≡◌, ◌∙◌, ap, sym, subst, take, drop, length}
 use Rattle.std.specs.Prelude.{OnOk}
 use Rattle.client_commands.specs.declared.protocols.Protocol.TheVariants.{Two, Three}
 use Rattle.resp2.specs.Framing.Frame.{view}
@@ -15,14 +15,14 @@ pub returns-in-Two-clause-served : goal.returns-in-Two-clause-served
 returns-in-Two-clause-served g c =
     let before = c.args.self.now in
     let after = c.answer_value.new.self in
-    tells_in_two c.args.cell.now.start c.args.now (guest_of before.attendant before.subscriptions before.session c.args.seat.now.view) after.attendant after.subscriptions
-    after.session c.answer_value.new.seat.view (view c.args.value.now) before.unsent.items after.unsent.items (sym c.protocol.ensures ∙ c.in-Two.is)
+    tells_in_two c.args.cell.now.start c.args.now (guest_of before.attendant before.subscriptions before.responder.hears c.args.seat.now.view) after.attendant after.subscriptions
+    after.responder.hears c.answer_value.new.seat.view (view c.args.value.now) before.responder.unsent.items after.responder.unsent.items (sym c.protocol.ensures ∙ c.in-Two.is)
     c.in_ok-answer_value.ensures.served
 
 pub retell-requires : goal.retell-requires
 retell-requires g c =
     let got = c.in_ok-answer_value.ensures.served in
-    is_behind c.len-start.result c.args.self.now.unsent.items c.answer_value.new.self.unsent.items got.0 c.len-start.ensures.value got.1
+    is_behind (length c.unsent-start.result.now) c.args.self.now.responder.unsent.items c.answer_value.new.self.responder.unsent.items got.0 (ap length c.unsent-start.ensures) got.1
 
 pub returns-in-Three-clause-served : goal.returns-in-Three-clause-served
 returns-in-Three-clause-served g c =
@@ -31,12 +31,12 @@ returns-in-Three-clause-served g c =
     let after = c.retell.new.self in
     on_ok c.retell.result
     (λ told.
-    tells_in_three c.args.cell.now.start c.args.now (guest_of before.attendant before.subscriptions before.session c.args.seat.now.view) mid.attendant after.attendant
-    mid.subscriptions after.subscriptions mid.session after.session c.answer_value.new.seat.view (view c.args.value.now) before.unsent.items mid.unsent.items
-    after.unsent.items c.len-start.result c.len-start.ensures.value (sym c.protocol.ensures ∙ c.in-Three.is) c.retell.ensures.attendant c.retell.ensures.kept.1 c.retell.ensures.session
+    tells_in_three c.args.cell.now.start c.args.now (guest_of before.attendant before.subscriptions before.responder.hears c.args.seat.now.view) mid.attendant after.attendant
+    mid.subscriptions after.subscriptions mid.responder.hears after.responder.hears c.answer_value.new.seat.view (view c.args.value.now) before.responder.unsent.items mid.responder.unsent.items
+    after.responder.unsent.items (length c.unsent-start.result.now) (ap length c.unsent-start.ensures) (sym c.protocol.ensures ∙ c.in-Three.is) c.retell.ensures.attendant c.retell.ensures.kept c.retell.ensures.hears
     c.in_ok-answer_value.ensures.served told)
     (subst (λ (shape : Shape). OnOk c.retell.result
-    (JoinsTold Three shape (drop c.len-start.result mid.unsent.items) (take c.len-start.result mid.unsent.items) after.unsent.items))
+    (JoinsTold Three shape (drop (length c.unsent-start.result.now) mid.responder.unsent.items) (take (length c.unsent-start.result.now) mid.responder.unsent.items) after.responder.unsent.items))
     c.shape_of.ensures c.retell.ensures.ok)
 
 pub returns-in-Three-clause-fault : goal.returns-in-Three-clause-fault
@@ -45,8 +45,8 @@ returns-in-Three-clause-fault g c =
     let mid = c.answer_value.new.self in
     let got = c.in_ok-answer_value.ensures.served in
     let value = view c.args.value.now in
-    let lost = served_lost c.args.cell.now.start c.args.now before.attendant.asker.protocol (guest_of before.attendant before.subscriptions before.session c.args.seat.now.view) value
-    got.0 (guest_of mid.attendant mid.subscriptions mid.session c.answer_value.new.seat.view) got.3
+    let lost = served_lost c.args.cell.now.start c.args.now before.attendant.asker.protocol (guest_of before.attendant before.subscriptions before.responder.hears c.args.seat.now.view) value
+    got.0 (guest_of mid.attendant mid.subscriptions mid.responder.hears c.answer_value.new.seat.view) got.3
     in
-    none_told_of (λ (f : ServeFault). IsUnanswered c.args.cell.now.start c.args.now c.args.seat.now.view value f c.answer_value.new.seat.view) c.retell.result c.len-start.result
-    before.unsent.items mid.unsent.items got.0 c.retell.new.self.unsent.items lost c.len-start.ensures.value got.1 c.retell.ensures.err c.retell.ensures.fault
+    none_told_of (λ (f : ServeFault). IsUnanswered c.args.cell.now.start c.args.now c.args.seat.now.view value f c.answer_value.new.seat.view) c.retell.result (length c.unsent-start.result.now)
+    before.responder.unsent.items mid.responder.unsent.items got.0 c.retell.new.self.responder.unsent.items lost (ap length c.unsent-start.ensures) got.1 c.retell.ensures.err c.retell.ensures.fault
