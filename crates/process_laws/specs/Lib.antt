@@ -11,6 +11,7 @@ pub mod HeardAnswers
 pub mod Openings
 pub mod OwnActions
 pub mod Connected
+pub mod PutOff
 pub mod CarriedPieces
 pub mod FilesLeft
 pub mod TwoConnected

@@ -7,6 +7,7 @@ ghost use Rattle.process_laws.specs.FilesLeft.{FilesAreLeft};
 ghost use Rattle.process_laws.specs.GroupStarts.{OneGroupIsAStart};
 ghost use Rattle.process_laws.specs.LateAnswers.{LateAnswersHappen};
 ghost use Rattle.process_laws.specs.OwnActions.{OwnActionsAreActions};
+ghost use Rattle.process_laws.specs.PutOff.{PutOffPiecesJoin};
 ghost use Rattle.process_laws.specs.TwoConnected.{ConnectedProcessesHappen};
 ghost use Rattle.process_laws.specs.TwoProcesses.{ActionsHappen};
 
@@ -74,9 +75,16 @@ pub fn law_connected_processes_happen()
 {}
 
 /// What `law_connected_processes_are_safe` asks of a connection follows from what the port's session promises of each
-/// piece that it takes, at a reading of the clock of its own.
+/// piece that it takes, at a reading of the clock of its own: also where a value of it waits, as it may store, and is
+/// answered with the next piece.
 pub fn law_pieces_are_carried()
     ensures { PiecesAreCarried }
+{}
+
+/// A piece in which a value waits, and the next one, which begins with that, are one piece of both, however the next one
+/// ends: by a fault, by another value that waits, or answered whole.
+pub fn law_put_off_pieces_join()
+    ensures { PutOffPiecesJoin }
 {}
 
 /// Where a process was opened by what its file held, and the file has either text that its history may have left there,
