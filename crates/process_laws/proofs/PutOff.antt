@@ -1,5 +1,5 @@
 -- A piece in which a value waits goes on as one with the next.
-use Rattle.std.proofs.Common.{◌≡◌, ℕ, ◌+◌, ◌≤◌, List, [], ◌∷◌, ◌++◌, Result, Ok, Err, refl, sym, ap, ◌∙◌, subst, append_assoc, arith, inl, inr}
+use Rattle.std.proofs.Common.{◌≡◌, ℕ, ◌+◌, ◌≤◌, List, [], ◌∷◌, ◌++◌, Result, Ok, Err, sym, ap, ◌∙◌, subst, append_assoc, arith, inl, inr}
 use Rattle.client_commands.specs.Lines.{Reads}
 use Rattle.client_commands.proofs.LineStreams.{reads_join}
 use Rattle.courteous_sessions.specs.GoingOn.{GoesOn, IsPutOff, BreaksWithin}

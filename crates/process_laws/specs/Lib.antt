@@ -15,3 +15,4 @@ pub mod PutOff
 pub mod CarriedPieces
 pub mod FilesLeft
 pub mod TwoConnected
+pub mod Watched
