@@ -21,6 +21,8 @@ pub mod Pieces
 pub mod Openings
 pub mod OwnActions
 pub mod Connected
+pub mod PutOff
 pub mod CarriedPieces
 pub mod FilesLeft
 pub mod TwoConnected
+pub mod Watched

@@ -1,15 +1,17 @@
 -- A connection by the pieces that its ends took is one by their values.
-use Rattle.std.proofs.Common.{◌≡◌, ℕ, List, [], ◌∷◌, ◌++◌, map, refl, ap, sym, ◌∙◌, subst, inr, append_assoc, Option, Result, Ok, Err}
+use Rattle.std.proofs.Common.{◌≡◌, ℕ, List, [], ◌∷◌, ◌++◌, map, refl, ap, sym, ◌∙◌, subst, inr, append_assoc, arith, Option, Result, Ok, Err}
 use Rattle.std.specs.List.{flat_map, AllByRecursion}
 use Rattle.std.proofs.lemmas.List.{append-nil}
 use Rattle.ballot_law.specs.declared.messages.Body.{Body}
 use Rattle.client_commands.specs.Lines.{value_at, Reads}
 use Rattle.client_commands.proofs.LineStreams.{as_frame, spelled_is_value, reads_longer, reads_join}
 use Rattle.courteous_sessions.specs.Epochs.{heard_as}
+use Rattle.courteous_sessions.specs.Stores.{stores_among}
 use Rattle.courteous_sessions.specs.Visits.{Guest, channel_turn, ServesBy, ServesBesideBy, ServesIn, Tells, ServesAll}
 use Rattle.client_commands.specs.declared.protocols.Protocol.{Protocol}
 use Rattle.client_commands.specs.declared.protocols.Protocol.TheVariants.{Two, Three}
 use Rattle.node_texts.specs.Messages.MessageTexts.{message_bytes, body_frame}
+use Rattle.port_sessions.specs.declared.limit.Reach.TheVariants.{Done}
 use Rattle.pubsub.specs.Answering.{Answer as ChannelAnswer, other, said as confirmed}
 use Rattle.resp2.specs.declared.framing.fault.Unread.{Unread}
 use Rattle.resp2.specs.declared.framing.fault.Unread.TheVariants.{NeedsMore}
@@ -21,7 +23,9 @@ use Rattle.sentinel_cell.specs.Histories.{World}
 use Rattle.process_laws.specs.CarriedPieces.{AnsweredOn, EachTurnOf, EachTurnInPieces}
 use Rattle.process_laws.specs.Connected.{ServedOn, EachTurn}
 use Rattle.process_laws.specs.Connections.{IsAskable}
+use Rattle.process_laws.specs.PutOff.{values_in, serves_in}
 use Rattle.process_laws.specs.SharedConnections.{IsLater, IsNear, ServedBeside, AnsweredInPieces, PiecesAreAConnection}
+use Rattle.process_laws.proofs.PutOff.{reads_in}
 use Rattle.process_laws.proofs.SharedConnections.{Whatever, Nears, served_beside}
 use Rattle.process_laws.proofs.Turns.{question_spelled}
 
@@ -112,19 +116,19 @@ module _ (P : List Entry → Type 0) (Q : Guest → Frame → List ℕ → Type 
       → EachTurnInPieces P Q start g held pieces bytes a → IsServedWhole P Q start g (held ++ flat pieces) bytes
   served_whole g held [] bytes a turns = record { values = []; rest = held; reads = append-nil held; serves = (g, (a, refl), tt) }
   served_whole g held (piece ∷ pieces) bytes a turns =
-      let answered = a.8 in
-      let kept = a.3 in
-      let others = served_whole a.2 kept pieces a.5 a.9 turns.1 in
-      let read : Reads (held ++ piece) answered.values kept =
-      subst (λ (t : List ℕ). Reads (held ++ piece) answered.values t) answered.splits.2.0 answered.splits.1 in
-      let both = reads_join (held ++ piece) (flat pieces) kept answered.values others.values others.rest read others.reads in
+      let kept = a.5 in
+      let others = served_whole a.4 kept pieces a.7 a.11 turns.1 in
+      let values = values_in start a.0 a.1 (held ++ piece) a.3 kept a.6 a.4 a.2 a.10 in
+      let serves = serves_in start a.0 a.1 (held ++ piece) a.3 kept a.6 a.4 a.2 a.10 in
+      let read : Reads (held ++ piece) values kept = reads_in start a.0 a.1 (held ++ piece) a.3 kept a.6 a.4 a.2 a.10 in
+      let both = reads_join (held ++ piece) (flat pieces) kept values others.values others.rest read others.reads in
       record {
-        values = answered.values ++ others.values;
+        values = values ++ others.values;
         rest = others.rest;
-        reads = subst (λ (t : List ℕ). Reads t (answered.values ++ others.values) others.rest) (append_assoc held piece (flat pieces)) both;
+        reads = subst (λ (t : List ℕ). Reads t (values ++ others.values) others.rest) (append_assoc held piece (flat pieces)) both;
         serves =
-            subst (λ (t : List ℕ). IsServedSo P Q start g (answered.values ++ others.values) t) (sym a.6)
-            (served_piece a.0 g a.1 answered.values others.values a.4 a.5 a.2 a.7 answered.answers turns.0 others.serves);
+            subst (λ (t : List ℕ). IsServedSo P Q start g (values ++ others.values) t) (sym a.8)
+            (served_piece a.0 g a.3 values others.values a.6 a.7 a.4 a.9 serves turns.0 others.serves);
       }
 
 -- where each value is heard as it is
@@ -140,7 +144,7 @@ near_pieces : (start : World) (g : Guest) (held : List ℕ) (pieces : List (List
 near_pieces start g held [] bytes a = (a, tt)
 near_pieces start g held (piece ∷ pieces) bytes a =
     let on = near_pieces start a.2 a.3 pieces a.5 a.10 in (
-      (a.0, a.1, a.2, a.3, a.4, a.5, a.6, a.7, a.8, on.0),
+      (a.0, stores_among a.8.values, Done, a.1, a.2, a.3, a.4, a.5, a.6, a.7, record { answered = a.8; few = omega arith }, on.0),
       (near_turns start a.0 a.1 a.8.values a.4 a.2 a.8.answers a.9, on.1),
     )
 

@@ -222,16 +222,21 @@ pub record AreConnected (roster : Roster) (start : Group) (lives : ℕ → List 
   pub heard : (i : ℕ) (entry : Entry) (asker : NodeName) (left : KeptText) (before later : List Action) → order ≡ before ++ Took i entry asker left ∷ later
       → MayTake roster (actions_after (at_first start) before i).world.plan (length start.stores) before i entry.input.event
 
--- Such processes are what the laws of processes ask, so these hold of all that they did: one leader, one address, and at each moment no file's epoch is above a later one,
--- and what is stored is the file's
+-- what the laws of processes say of all that was done, in this order: one leader, one address, and at each moment no file's epoch is above a later one, and what is stored is
+-- the file's
+abbrev pub AreSafe : Roster → Group → (order : List Action) → Type 0
+AreSafe roster start order =
+    ∥ AreActions roster (length start.stores) (at_first start) [] order ∥₁
+    × HasOneLeader (all_elected (at_first start) order)
+    × HasOneAddress (all_said roster (at_first start) order)
+    × ((before later : List Action) → order ≡ before ++ later
+    → FilesNeverFall roster (actions_after (at_first start) before) (actions_after (at_first start) order) × StoredIsFiled (actions_after (at_first start) before))
+
+-- such processes are what the laws of processes ask
 abbrev pub ConnectedProcessesAreSafe : Type 0
 ConnectedProcessesAreSafe =
     (roster : Roster) (start : Group) (lives : ℕ → List Life) (order : List Action) →
     HasDistinctIds roster →
     IsStart roster start →
     AreConnected roster start lives order →
-    ∥ AreActions roster (length start.stores) (at_first start) [] order ∥₁
-    × HasOneLeader (all_elected (at_first start) order)
-    × HasOneAddress (all_said roster (at_first start) order)
-    × ((before later : List Action) → order ≡ before ++ later
-    → FilesNeverFall roster (actions_after (at_first start) before) (actions_after (at_first start) order) × StoredIsFiled (actions_after (at_first start) before))
+    AreSafe roster start order

@@ -11,6 +11,8 @@ pub mod HeardAnswers
 pub mod Openings
 pub mod OwnActions
 pub mod Connected
+pub mod PutOff
 pub mod CarriedPieces
 pub mod FilesLeft
 pub mod TwoConnected
+pub mod Watched

@@ -7,8 +7,10 @@ ghost use Rattle.process_laws.specs.FilesLeft.{FilesAreLeft};
 ghost use Rattle.process_laws.specs.GroupStarts.{OneGroupIsAStart};
 ghost use Rattle.process_laws.specs.LateAnswers.{LateAnswersHappen};
 ghost use Rattle.process_laws.specs.OwnActions.{OwnActionsAreActions};
+ghost use Rattle.process_laws.specs.PutOff.{PutOffPiecesJoin};
 ghost use Rattle.process_laws.specs.TwoConnected.{ConnectedProcessesHappen};
 ghost use Rattle.process_laws.specs.TwoProcesses.{ActionsHappen};
+ghost use Rattle.process_laws.specs.Watched.{WatchedAreConnected, WatchedAreSafe};
 
 /// What the processes of a group did, in an order in which each answer and each hello is heard after the release that
 /// sent it, is a run of the model: with the same elections, in which the Sentinels said the same, and which leaves
@@ -74,9 +76,16 @@ pub fn law_connected_processes_happen()
 {}
 
 /// What `law_connected_processes_are_safe` asks of a connection follows from what the port's session promises of each
-/// piece that it takes, at a reading of the clock of its own.
+/// piece that it takes, at a reading of the clock of its own: also where a value of it waits, as it may store, and is
+/// answered with the next piece.
 pub fn law_pieces_are_carried()
     ensures { PiecesAreCarried }
+{}
+
+/// A piece in which a value waits, and the next one, which begins with that, are one piece of both, however the next one
+/// ends: by a fault, by another value that waits, or answered whole.
+pub fn law_put_off_pieces_join()
+    ensures { PutOffPiecesJoin }
 {}
 
 /// Where a process was opened by what its file held, and the file has either text that its history may have left there,
@@ -84,4 +93,13 @@ pub fn law_pieces_are_carried()
 /// refused store that or the new text. It is read as the same file but for that.
 pub fn law_files_are_left()
     ensures { FilesAreLeft }
+{}
+
+/// What the contracts of a running Sentinel are about is what `law_connected_processes_are_safe` asks: each process took
+/// what is free, or what bytes told it that came on one of its connections, for what was asked there. Left are the
+/// network, which carried those bytes from the Sentinel that was meant, or told a hello that a Sentinel published
+/// before, and the one order of all.
+pub fn law_watched_processes_are_connected()
+    ensures connected { WatchedAreConnected }
+    ensures safe { WatchedAreSafe }
 {}
