@@ -1,4 +1,3 @@
 pub mod FirstFaults
 pub mod Foreign
-pub mod Together
 pub mod OneNote

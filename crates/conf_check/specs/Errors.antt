@@ -1,4 +1,3 @@
-pub mod RefusedNames
 pub mod AllFaults
 pub mod Claims
 pub mod Notes

@@ -14,7 +14,6 @@ mod collisions;
 mod first_lines;
 mod laws;
 mod notes;
-mod refused_names;
 mod sentences;
 
 pub use all_faults::faults_of;

@@ -3,9 +3,9 @@ pub mod RoomLemmas
 pub mod FixedLemmas
 pub mod Fitting
 pub mod ReadSteps
+pub mod FirstFaults
 pub mod RosterAgain
 pub mod ListSteps
-pub mod FileWalks
 pub mod SetLemmas
 pub mod OrderLemmas
 pub mod FileLemmas

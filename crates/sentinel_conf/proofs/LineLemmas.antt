@@ -13,7 +13,7 @@ use Rattle.conf_lines.specs.declared.lines.Line.TheVariants as line
 use Rattle.ballot_law.specs.Words.{some_if}
 use Rattle.conf_lines.specs.Lines.{line_of, spelled, same_key}
 use Rattle.sentinel_conf.specs.Meaning.{states, settings, state_of, setting_of, is_kept}
-use Rattle.sentinel_conf.specs.Reading.{line_fault, first_fault, kept_lines_of}
+use Rattle.sentinel_conf.specs.Reading.{at_line, faults, first_of, line_fault, first_fault, kept_lines_of}
 use Rattle.conf_lines.specs.Faults.{fault_at}
 use Rattle.sentinel_conf.proofs.SetLemmas.{In, each_in}
 use Rattle.conf_lines.proofs.StateLemmas.{IsState, line_of-spelled}
@@ -121,11 +121,11 @@ Clean test earlier (l ∷ ls) = (test earlier l ≡ None) × Clean test (earlier
 pub clean_none : (test : List StateLine → Line → Option ConfKind) (n : ℕ) (earlier : List StateLine) (ls : List Line) → Clean test earlier ls → first_fault test n earlier ls ≡ None
 clean_none test n earlier [] h = refl
 clean_none test n earlier (l ∷ ls) h =
-    ap (λ o. elim o as (λ _. Option ConfFault) [ Some kind ↦ Some (fault_at n kind) | None ↦ first_fault test (n + 1) (earlier ++ states (l ∷ [])) ls ]) h.0
+    ap (λ o. first_of (at_line n o ++ faults test (n + 1) (earlier ++ states (l ∷ [])) ls)) h.0
     ∙ clean_none test (n + 1) (earlier ++ states (l ∷ [])) ls h.1
 
 clean_step : (test : List StateLine → Line → Option ConfKind) (n : ℕ) (earlier : List StateLine) (l : Line) (ls : List Line) (o : Option ConfKind) → test earlier l ≡ o
-    → (elim o as (λ _. Option ConfFault) [ Some kind ↦ Some (fault_at n kind) | None ↦ first_fault test (n + 1) (earlier ++ states (l ∷ [])) ls ]) ≡ None
+    → first_of (at_line n o ++ faults test (n + 1) (earlier ++ states (l ∷ [])) ls) ≡ None
     → (test earlier l ≡ None) × (first_fault test (n + 1) (earlier ++ states (l ∷ [])) ls ≡ None)
 clean_step test n earlier l ls None e h = (e, h)
 clean_step test n earlier l ls (Some kind) e h = cc

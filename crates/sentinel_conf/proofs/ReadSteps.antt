@@ -65,6 +65,9 @@ module _ (texts : List (List ℕ)) where
   lines_clean : (names : List (List ℕ)) → names ≡ named → first_fault line_fault 1 [] ls ≡ None → conf_of_lines texts ≡ with_names names
   lines_clean names n a = ap (λ t. unless t >>= λ _. with_names named) a ∙ ap with_names (sym n)
 
+  pub line_faulty : (fault : ConfFault) → first_fault line_fault 1 [] ls ≡ Some fault → conf_of_lines texts ≡ Err fault
+  line_faulty fault e = ap (λ t. unless t >>= λ _. with_names named) e
+
   pub name_faulty : (fault : ConfFault) (names : List (List ℕ)) → names ≡ named → first_fault line_fault 1 [] ls ≡ None
       → first_fault (λ _. unknown_fault names) 1 [] ls ≡ Some fault → conf_of_lines texts ≡ Err fault
   name_faulty fault names n a e = lines_clean names n a ∙ ap (λ t. unless t >>= λ _. with_id) e

@@ -3,6 +3,8 @@ pub mod Meaning
 pub mod Rewritten
 pub mod Fixed
 pub mod Reading
+pub mod RefusedNames
+pub mod AllFaults
 pub mod Facts
 pub mod Store
 pub mod Watch

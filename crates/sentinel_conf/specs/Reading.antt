@@ -35,14 +35,23 @@ abbrev pub unknown_fault : List (List ℕ) → Line → Option ConfKind
 unknown_fault names line =
     elim (spoken_of line) as (λ _. Option ConfKind) [ None ↦ None | Some name ↦ some_if (not (list_any (same_bytes name) names)) UnknownMaster ]
 
--- the first fault that the test finds, line by line; it is given the state lines before
+-- at the line with this number
+abbrev pub at_line : ℕ → Option ConfKind → List ConfFault
+at_line number None = []
+at_line number (Some kind) = fault_at number kind ∷ []
+
+-- the faults that the test finds, line by line, the first of which has this number; it is given the state lines before
+abbrev pub faults : (List StateLine → Line → Option ConfKind) → ℕ → List StateLine → List Line → List ConfFault
+faults test number earlier [] = []
+faults test number earlier (line ∷ lines) = at_line number (test earlier line) ++ faults test (number + 1) (earlier ++ states (line ∷ [])) lines
+
+abbrev pub first_of : List ConfFault → Option ConfFault
+first_of [] = None
+first_of (fault ∷ others) = Some fault
+
+-- the first of them
 abbrev pub first_fault : (List StateLine → Line → Option ConfKind) → ℕ → List StateLine → List Line → Option ConfFault
-first_fault test number earlier [] = None
-first_fault test number earlier (line ∷ lines) =
-    elim (test earlier line) as (λ _. Option ConfFault) [
-      | Some kind ↦ Some (fault_at number kind)
-      | None ↦ first_fault test (number + 1) (earlier ++ states (line ∷ [])) lines
-    ]
+first_fault test number earlier lines = first_of (faults test number earlier lines)
 
 abbrev pub unless : Option ConfFault → Result (Unit {0}) ConfFault
 unless None = Ok tt

@@ -1,22 +1,17 @@
-//! The lines of a file, and its faults line by line.
+//! What the lines of a file say, and what is wrong with each of them.
 
-ghost use Rattle.std.specs.Prelude.{◌≡◌, ◌++◌, ◌∷◌, ◌⊎◌, ◌↔◌, [], List, ℕ, map, None, Some, IfOk, IfErr, OnOk, Option, MatchResult, MatchOption, if◌then◌else◌};
-ghost use Rattle.std.specs.List.{filter_map, flat_map, list_any};
+ghost use Rattle.std.specs.Prelude.{◌≡◌, ◌++◌, ◌∷◌, [], List, ℕ, map, None, Some, IfOk, OnOk, Option, MatchOption, if◌then◌else◌};
+ghost use Rattle.std.specs.List.{flat_map, list_any};
 ghost use Rattle.ballot_law.specs.Orders.{same_bytes};
-ghost use Rattle.conf_lines.specs.declared.faults.ConfFault.{ConfFault};
-ghost use Rattle.ballot_law.specs.Cuts.{lines};
-ghost use Rattle.conf_lines.specs.Lines.{line_of, same_key};
-ghost use Rattle.sentinel_conf.specs.Meaning.{states, settings, is_kept};
-ghost use Rattle.conf_lines.specs.Values.{name_of};
+ghost use Rattle.conf_lines.specs.Lines.{line_of, same_key, state_name, setting_name, spoken_of};
 ghost use Rattle.conf_lines.specs.Words.{ended};
-ghost use Rattle.sentinel_conf.specs.Reading.{first_fault, line_fault, unknown_fault, kept_lines_of};
-ghost use Rattle.conf_lines.specs.Lines.{state_name, setting_name, spoken_of};
-ghost use Rattle.conf_lines.specs.Faults.{no_memory};
+ghost use Rattle.sentinel_conf.specs.Meaning.{states, settings, is_kept};
+ghost use Rattle.sentinel_conf.specs.Reading.{line_fault, unknown_fault, kept_lines_of};
 
+use crate::read_line::ReadLine;
 use ballot_law::{Name, is_same_bytes};
-use conf_lines::{ConfFault, ConfKind, Line, Setting, StateLine, line_of};
+use conf_lines::{ConfKind, Line, Setting, StateLine};
 use std::alloc::{AllocError, Global};
-use tokens::split_line;
 
 /// What the lines of a file say, in order.
 #[derive(Drop)]
@@ -27,52 +22,76 @@ pub struct FileLines {
     pub kept: Vec<u8>,
 }
 
+/// The settings of these lines, in order. AllocError: memory was refused.
+pub fn settings_given(alloc: Global, lines: &[ReadLine<'_>]) -> Result<Vec<Setting>, AllocError>
+    ensures { IfOk result (λ list. list.items ≡ settings (map line_of lines.now)) }
+{
+    let mut list = Vec::new(alloc);
+    let mut rest = lines;
+    while let [line, more @ ..] = rest {
+        if let Line::Setting(setting) = line.line() {
+            list.push(*setting)?;
+        }
+        rest = more;
+    }
+    Ok(list)
+}
+
+/// Whether a rewrite keeps the line.
+fn is_kept(line: &Line) -> bool
+    ensures { result ≡ is_kept line.now }
+{
+    match line {
+        Line::State(_) => false,
+        Line::Setting(_) | Line::Kept | Line::Faulty(_) => true,
+    }
+}
+
+/// Adds the line, where a rewrite keeps it.
+fn add_kept(kept: &mut Vec<u8>, line: &ReadLine<'_>) -> Result<(), AllocError>
+    ensures { OnOk result (kept.new.items
+        ≡ kept.old.items ++ (if is_kept (line_of line.now) then ended line.now else [])) }
+{
+    if is_kept(line.line()) {
+        kept.extend_from_slice(line.text())?;
+        kept.extend_from_slice(b"\n")?;
+    }
+    Ok(())
+}
+
+/// The lines that a rewrite keeps, each ended by LF.
+fn kept_lines(alloc: Global, lines: &[ReadLine<'_>]) -> Result<Vec<u8>, AllocError>
+    ensures { IfOk result (λ kept. kept.items ≡ flat_map ended (kept_lines_of lines.now)) }
+{
+    let mut kept = Vec::new(alloc);
+    let mut rest = lines;
+    while let [line, more @ ..] = rest {
+        add_kept(&mut kept, line)?;
+        rest = more;
+    }
+    Ok(kept)
+}
+
 impl FileLines {
-    /// No lines yet.
-    fn new(alloc: Global) -> FileLines
-        ensures states { result.states.items ≡ [] }
-        ensures settings { result.settings.items ≡ [] }
-        ensures kept { result.kept.items ≡ [] }
+    /// What these lines say, whose state lines are these.
+    pub fn of(
+        alloc: Global,
+        lines: &[ReadLine<'_>],
+        states: Vec<StateLine>,
+    ) -> Result<FileLines, AllocError>
+        ensures states { IfOk result (λ file. file.states.items ≡ states.items) }
+        ensures settings { IfOk result
+            (λ file. file.settings.items ≡ settings (map line_of lines.now)) }
+        ensures kept { IfOk result
+            (λ file. file.kept.items ≡ flat_map ended (kept_lines_of lines.now)) }
     {
-        FileLines {
-            states: Vec::new(alloc),
-            settings: Vec::new(alloc),
-            kept: Vec::new(alloc),
-        }
-    }
-
-    /// Adds a line that is kept.
-    fn keep(&mut self, text: &[u8]) -> Result<(), AllocError>
-        ensures states { OnOk result (self.new.states.items ≡ self.old.states.items) }
-        ensures settings { OnOk result (self.new.settings.items ≡ self.old.settings.items) }
-        ensures kept { OnOk result (self.new.kept.items ≡ self.old.kept.items ++ ended text.now) }
-    {
-        self.kept.extend_from_slice(text)?;
-        self.kept.extend_from_slice(b"\n")?;
-        Ok(())
-    }
-
-    /// Adds a line.
-    fn add(&mut self, text: &[u8], line: &Line) -> Result<(), AllocError>
-        ensures states { OnOk result
-            (self.new.states.items ≡ self.old.states.items ++ states (line.now ∷ [])) }
-        ensures settings { OnOk result
-            (self.new.settings.items ≡ self.old.settings.items ++ settings (line.now ∷ [])) }
-        ensures kept { OnOk result (self.new.kept.items
-            ≡ self.old.kept.items ++ (if is_kept line.now then ended text.now else [])) }
-    {
-        match line {
-            Line::State(state) => {
-                self.states.push(*state)?;
-                Ok(())
-            }
-            Line::Setting(setting) => {
-                self.settings.push(*setting)?;
-                self.keep(text)
-            }
-            Line::Kept => self.keep(text),
-            Line::Faulty(_) => self.keep(text),
-        }
+        let settings = settings_given(alloc, lines)?;
+        let kept = kept_lines(alloc, lines)?;
+        Ok(FileLines {
+            states,
+            settings,
+            kept,
+        })
     }
 }
 
@@ -83,7 +102,7 @@ fn is_twice(earlier: &[StateLine], state: &StateLine) -> bool
     earlier.iter().any(|other| state.has_key_of(other))
 }
 
-/// The fault of a line by itself, after these state lines; `None` where it has none. No memory is taken.
+/// The fault of a line by itself, after these state lines; `None` where it has none.
 pub fn line_fault(earlier: &[StateLine], line: &Line) -> Option<ConfKind>
     ensures { result ≡ line_fault earlier.now line.now }
 {
@@ -122,54 +141,4 @@ pub fn unknown_fault(names: &[Name], line: &Line) -> Option<ConfKind>
             Some(ConfKind::UnknownMaster)
         }
     }
-}
-
-/// What the lines of these bytes say, or the first fault of a line by itself or after the lines before it. A
-/// refused allocation may stand in place of either.
-pub fn read_lines(alloc: Global, bytes: &[u8]) -> Result<FileLines, ConfFault>
-    ensures fits { OnOk result
-        (first_fault line_fault 1 [] (map line_of (lines bytes.now)) ≡ None) }
-    ensures states { IfOk result
-        (λ file. file.states.items ≡ states (map line_of (lines bytes.now))) }
-    ensures settings { IfOk result
-        (λ file. file.settings.items ≡ settings (map line_of (lines bytes.now))) }
-    ensures kept { IfOk result
-        (λ file. file.kept.items ≡ flat_map ended (kept_lines_of (lines bytes.now))) }
-    ensures fault { IfErr result (λ fault. (fault ≡ no_memory)
-        ⊎ (first_fault line_fault 1 [] (map line_of (lines bytes.now)) ≡ Some fault)) }
-{
-    let mut file = FileLines::new(alloc);
-    let mut number: u64 = 1;
-    let mut rest = bytes;
-    while !rest.is_empty() {
-        let (text, more) = split_line(rest);
-        let line = line_of(text);
-        if let Some(kind) = line_fault(&file.states, &line) {
-            return Err(ConfFault { line: number, kind });
-        }
-        file.add(text, &line)?;
-        number += 1;
-        rest = more;
-    }
-    Ok(file)
-}
-
-/// Refuses the first line that speaks of a master that isn't among these.
-pub fn check_names(bytes: &[u8], names: &[Name]) -> Result<(), ConfFault>
-    ensures fits { OnOk result
-        (first_fault (λ _. unknown_fault names.now) 1 [] (map line_of (lines bytes.now)) ≡ None) }
-    ensures fault { IfErr result (λ fault.
-        first_fault (λ _. unknown_fault names.now) 1 [] (map line_of (lines bytes.now)) ≡ Some fault) }
-{
-    let mut number: u64 = 1;
-    let mut rest = bytes;
-    while !rest.is_empty() {
-        let (text, more) = split_line(rest);
-        if let Some(kind) = unknown_fault(names, &line_of(text)) {
-            return Err(ConfFault { line: number, kind });
-        }
-        number += 1;
-        rest = more;
-    }
-    Ok(())
 }

@@ -8,6 +8,7 @@ ghost use Rattle.sentinel_conf.specs.Meaning.{ConfPlan};
 ghost use Rattle.ballot_law.specs.declared.cards.Kept.{Kept as KeptModel};
 ghost use Rattle.sentinel_conf.specs.Rewritten.{rewritten, state_lines, IsKeptPart, HasRunIds};
 ghost use Rattle.sentinel_conf.specs.Reading.{conf_of_bytes, FILE_MAX};
+ghost use Rattle.sentinel_conf.specs.AllFaults.{FirstRefuses};
 
 use ballot_law::{Kept, KeptMaster, RunId};
 
@@ -23,6 +24,12 @@ pub fn law_read_again()
         lines (rewritten conf kept) ≡ conf.kept_lines ++ map spelled (state_lines conf kept) }
     ensures size { (bytes : List ℕ) (conf : ConfPlan) (kept : KeptModel) →
         conf_of_bytes bytes ≡ Ok conf → IsKeptPart conf kept → length (rewritten conf kept) ≤ FILE_MAX }
+{}
+
+/// Lines that have a fault are refused by the first of all their faults, those that `faults_in` gives: so `read` refuses
+/// a file, unless it is too long or no text.
+pub fn law_first_fault()
+    ensures { (texts : List (List ℕ)) → FirstRefuses texts }
 {}
 
 /// Every value of the type is a run id of 40 digits.

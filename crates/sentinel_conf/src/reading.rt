@@ -1,6 +1,6 @@
 //! What a file says before its size is judged, and the steps of reading it, in the order of its faults.
 
-ghost use Rattle.std.specs.Prelude.{◌≡◌, ◌++◌, not, nat_lt, ◌<◌, ◌≤◌, ◌⊎◌, None, Some, Ok, Err, List, ℕ, map, length, IfOk, IfErr, OnOk, MatchResult, slice_index_or, true};
+ghost use Rattle.std.specs.Prelude.{◌≡◌, [], ◌++◌, not, nat_lt, ◌<◌, ◌≤◌, ◌⊎◌, None, Some, Ok, Err, List, ℕ, map, length, IfOk, IfErr, OnOk, MatchResult, slice_index_or, true};
 ghost use Rattle.std.specs.List.{filter_map, flat_map, list_any};
 ghost use Rattle.std.specs.Str.{IsUtf8};
 ghost use Rattle.ballot_law.specs.declared.rosters.TheConstants.{SENTINELS_MAX};
@@ -12,20 +12,24 @@ ghost use Rattle.conf_lines.specs.declared.faults.ConfKind.TheVariants.{TooLong}
 ghost use Rattle.ballot_law.specs.Cuts.{lines};
 ghost use Rattle.sentinel_conf.specs.Room.{bounded};
 ghost use Rattle.sentinel_conf.specs.Fixed.{IsFixedText};
-ghost use Rattle.sentinel_conf.specs.Meaning.{names_of, plan_of, conf_of, kept_of};
+ghost use Rattle.conf_lines.specs.Lines.{line_of};
+ghost use Rattle.sentinel_conf.specs.AllFaults.{faults_in};
+ghost use Rattle.sentinel_conf.specs.Meaning.{names_of, plan_of, conf_of, kept_of, states, settings};
 ghost use Rattle.conf_lines.specs.Values.{name_of};
 ghost use Rattle.sentinel_conf.specs.Rewritten.{rewritten, longest, at_last_epoch};
 ghost use Rattle.conf_lines.specs.Words.{ended};
-ghost use Rattle.sentinel_conf.specs.Reading.{FILE_MAX, checked, roster_checked, conf_of_lines, sized};
+ghost use Rattle.sentinel_conf.specs.Reading.{FILE_MAX, checked, first_of, kept_lines_of, roster_checked, conf_of_lines, sized};
 ghost use Rattle.conf_lines.specs.Faults.{no_memory, fault_at};
 
+use crate::all_faults::{Judged, judge};
 use crate::conf_text::ConfText;
-use crate::file_lines::{FileLines, check_names, read_lines};
+use crate::file_lines::FileLines;
 use crate::fixed_lines::FixedLines;
 use crate::meaning::{
     all_settings_of, greatest_epoch, kept_masters_of, masters_of, members_of, my_id, names_given,
     own_addr, own_port,
 };
+use crate::read_line::read_lines;
 use crate::settings::Settings;
 use crate::writing::add_file;
 use ballot_law::{
@@ -259,6 +263,28 @@ fn assembled(
     Ok(Parts::new(file.kept, roster, id, port, settings, kept, fixed))
 }
 
+/// What the lines of these bytes say, or the first of all their faults.
+fn faultless(alloc: Global, bytes: &[u8]) -> Result<FileLines, ConfFault>
+    ensures none { OnOk result (faults_in (lines bytes.now) ≡ []) }
+    ensures states { IfOk result
+        (λ file. file.states.items ≡ states (map line_of (lines bytes.now))) }
+    ensures settings { IfOk result
+        (λ file. file.settings.items ≡ settings (map line_of (lines bytes.now))) }
+    ensures kept { IfOk result
+        (λ file. file.kept.items ≡ flat_map ended (kept_lines_of (lines bytes.now))) }
+    ensures fault { IfErr result (λ fault. (fault ≡ no_memory)
+        ⊎ (first_of (faults_in (lines bytes.now)) ≡ Some fault)) }
+{
+    let lines = read_lines(alloc, bytes)?;
+    let Ok(Judged { states, faults }) = judge(alloc, &lines) else {
+        return Err(ConfFault::of_file(ConfKind::NoMemory));
+    };
+    if let Some(fault) = faults.first() {
+        return Err(*fault);
+    }
+    Ok(FileLines::of(alloc, &lines, states)?)
+}
+
 /// What these bytes say, or the first fault but for those of the size.
 pub fn parts_of(alloc: Global, bytes: &[u8]) -> Result<Parts, ConfFault>
     requires { IsUtf8 bytes.now }
@@ -266,11 +292,11 @@ pub fn parts_of(alloc: Global, bytes: &[u8]) -> Result<Parts, ConfFault>
         (λ parts. conf_of_lines (lines bytes.now) ≡ sized parts)
         (λ fault. (fault ≡ no_memory) ⊎ (conf_of_lines (lines bytes.now) ≡ Err fault)) }
 {
-    let file = read_lines(alloc, bytes)?;
+    let file = match faultless(alloc, bytes) {
+        Ok(file) => file,
+        Err(fault) => return Err(fault),
+    };
     let names = names_given(alloc, &file.states)?;
-    if let Err(fault) = check_names(bytes, &names) {
-        return Err(fault);
-    }
     let Some(id) = my_id(&file.states) else {
         return Err(ConfFault::of_file(ConfKind::NoMyId));
     };

@@ -1,21 +1,12 @@
 //! Who is said to be at which address.
 
-ghost use Rattle.std.specs.Prelude.{◌≡◌, ◌++◌, IfOk, OnOk, map};
-ghost use Rattle.ballot_law.specs.Cuts.{lines};
-ghost use Rattle.conf_lines.specs.Lines.{line_of};
-ghost use Rattle.sentinel_conf.specs.Meaning.{own_addr, settings};
+ghost use Rattle.std.specs.Prelude.{◌≡◌, ◌++◌, IfOk, OnOk};
 ghost use Rattle.conf_check.specs.Errors.Claims.{claims_of, claims, same_owner, same_sentinel};
 
 use ballot_law::{Addr, Name, RunId, is_same_bytes};
-use conf_lines::{Line, Setting, StateLine, line_of};
+use conf_lines::{Line, StateLine};
+use sentinel_conf::{own_addr, read_lines, settings_given};
 use std::alloc::{AllocError, Global};
-use tokens::split_line;
-
-/// The port of a Sentinel whose file names none.
-const DEFAULT_PORT: u16 = 26_379;
-
-/// The ip of a Sentinel whose file announces none: 127.0.0.1.
-const DEFAULT_IP: u32 = 2_130_706_433;
 
 /// Who is at an address.
 #[derive(Clone, Copy, PartialEq, Eq)]
@@ -60,37 +51,6 @@ pub struct Claim {
     pub addr: Addr,
 }
 
-/// The settings of a file, in the order of its lines.
-fn settings_in(alloc: Global, bytes: &[u8]) -> Result<Vec<Setting>, AllocError>
-    ensures { IfOk result (λ list. list.items ≡ settings (map line_of (lines bytes.now))) }
-{
-    let mut list = Vec::new(alloc);
-    let mut rest = bytes;
-    while !rest.is_empty() {
-        let (text, more) = split_line(rest);
-        if let Line::Setting(setting) = line_of(text) {
-            list.push(setting)?;
-        }
-        rest = more;
-    }
-    Ok(list)
-}
-
-/// Where the own Sentinel is, by these settings.
-fn own_addr(settings: &[Setting]) -> Addr
-    ensures { result ≡ own_addr settings.now }
-{
-    let ip = settings.iter().fold(
-        DEFAULT_IP,
-        |ip, setting| setting.announce_ip().unwrap_or(ip),
-    );
-    let port = settings.iter().fold(DEFAULT_PORT, |port, setting| setting.port().unwrap_or(port));
-    let port = settings.iter().fold(port, |port, setting| {
-        setting.announce_port().unwrap_or(port)
-    });
-    Addr { ip, port }
-}
-
 /// Adds what a line says, which has this number.
 fn add_claim(claims: &mut Vec<Claim>, own: Addr, line: u64, said: &Line) -> Result<(), AllocError>
     ensures { OnOk result (claims.new.items ≡ claims.old.items ++ claims_of own line said.now) }
@@ -110,13 +70,13 @@ fn add_claim(claims: &mut Vec<Claim>, own: Addr, line: u64, said: &Line) -> Resu
 pub fn claims_in(alloc: Global, bytes: &[u8]) -> Result<Vec<Claim>, AllocError>
     ensures { IfOk result (λ list. list.items ≡ claims bytes.now) }
 {
-    let own = own_addr(&settings_in(alloc, bytes)?);
+    let lines = read_lines(alloc, bytes)?;
+    let own = own_addr(&settings_given(alloc, &lines)?);
     let mut list = Vec::new(alloc);
     let mut number: u64 = 1;
-    let mut rest = bytes;
-    while !rest.is_empty() {
-        let (text, more) = split_line(rest);
-        add_claim(&mut list, own, number, &line_of(text))?;
+    let mut rest = lines.as_slice();
+    while let [line, more @ ..] = rest {
+        add_claim(&mut list, own, number, line.line())?;
         number += 1;
         rest = more;
     }

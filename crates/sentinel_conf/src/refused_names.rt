@@ -2,15 +2,15 @@
 
 ghost use Rattle.std.specs.Prelude.{◌≡◌, ◌++◌, IfOk, OnOk};
 ghost use Rattle.std.specs.List.{filter_map};
-ghost use Rattle.ballot_law.specs.Cuts.{lines};
 ghost use Rattle.ballot_law.specs.Words.{name};
 ghost use Rattle.tokens.specs.Quotes.{redis_words};
-ghost use Rattle.conf_check.specs.Errors.RefusedNames.{begins_monitor, name_behind, monitored, refused_name};
+ghost use Rattle.sentinel_conf.specs.RefusedNames.{begins_monitor, name_behind, monitored, refused_name};
 
+use crate::read_line::ReadLine;
 use ballot_law::{Name, NoMemory, Text};
-use conf_lines::{Line, line_of};
+use conf_lines::Line;
 use std::alloc::Global;
-use tokens::{redis_words, split_line};
+use tokens::redis_words;
 
 /// The name with these bytes.
 #[tactic(auto, using(ballot_law::specs::NameWords::name_is, ballot_law::specs::NameWords::name_not))]
@@ -49,11 +49,11 @@ fn monitored(alloc: Global, text: &[u8]) -> Result<Option<Name>, NoMemory>
 }
 
 /// The name behind `sentinel monitor` of a line that is at fault by itself.
-fn refused_name(alloc: Global, text: &[u8]) -> Result<Option<Name>, NoMemory>
-    ensures { IfOk result (λ found. found ≡ refused_name text.now) }
+fn refused_name(alloc: Global, line: &ReadLine<'_>) -> Result<Option<Name>, NoMemory>
+    ensures { IfOk result (λ found. found ≡ refused_name line.now) }
 {
-    match line_of(text) {
-        Line::Faulty(_) => monitored(alloc, text),
+    match line.line() {
+        Line::Faulty(_) => monitored(alloc, line.text()),
         _ => Ok(None),
     }
 }
@@ -62,14 +62,13 @@ fn refused_name(alloc: Global, text: &[u8]) -> Result<Option<Name>, NoMemory>
 pub(crate) fn add_refused_names(
     alloc: Global,
     names: &mut Vec<Name>,
-    bytes: &[u8],
+    lines: &[ReadLine<'_>],
 ) -> Result<(), NoMemory>
-    ensures { OnOk result (names.new.items ≡ names.old.items ++ filter_map refused_name (lines bytes.now)) }
+    ensures { OnOk result (names.new.items ≡ names.old.items ++ filter_map refused_name lines.now) }
 {
-    let mut rest = bytes;
-    while !rest.is_empty() {
-        let (text, more) = split_line(rest);
-        if let Some(name) = refused_name(alloc, text)? {
+    let mut rest = lines;
+    while let [line, more @ ..] = rest {
+        if let Some(name) = refused_name(alloc, line)? {
             names.push(name)?;
         }
         rest = more;
