@@ -1,14 +1,9 @@
--- Lines found by their number, and warnings one after the other.
-use Rattle.std.proofs.Common.{◌≡◌, ℕ, zero, suc, ◌-◌, ◌≤◌, List, [], ◌∷◌, ◌++◌, length, take, drop, get_or, refl, ap, sym, ◌∙◌, arith, append_assoc, Result, Ok, Err, OnOk, codes, decimal}
+-- Warnings one after the other.
+use Rattle.std.proofs.Common.{◌≡◌, ℕ, suc, ◌-◌, ◌≤◌, List, [], ◌∷◌, ◌++◌, length, take, drop, get_or, refl, ap, sym, ◌∙◌, arith, append_assoc, Result, Ok, Err, OnOk, codes, decimal}
 use Rattle.std.proofs.lemmas.List.{take_all}
 use Rattle.std.specs.List.{flat_map}
 use Rattle.conf_check.specs.declared.warnings.line_advices.Advice.{Advice}
 use Rattle.conf_check.specs.Warnings.Warnings.{line_at, told_words, warning}
-
--- a line further on, where it isn't the first
-pub further_on : (line : List ℕ) (more : List (List ℕ)) (left : ℕ) → (left ≡ 0 → ⊥) → get_or (line ∷ more) left [] ≡ get_or more (left - 1) []
-further_on line more zero n = absurd (n refl)
-further_on line more (suc k) n = ap (λ t. get_or more t []) (let e : k ≡ suc k - 1 = omega arith in e)
 
 -- the pieces of a line, added one after the other
 pub pieces : (done a path b number c told end one two three : List ℕ) → one ≡ done ++ (a ++ (path ++ (b ++ (number ++ c)))) → two ≡ one ++ told → three ≡ two ++ end
@@ -33,15 +28,15 @@ one_more f all done (x ∷ xs) d new l n h =
     ∙ ap (λ t. new ++ flat_map f t) (sym (take_all (length (x ∷ xs) - 1) xs (let k : length (x ∷ xs) ≡ suc (length xs) = refl in omega arith)))
 
 -- one advice more has its line
-pub one_warning : (first sentinel : List (List ℕ)) (sentinels : ℕ) (path bytes all done : List ℕ) (rest : List Advice) (d : Advice) (said one two new : List ℕ) → 1 ≤ length rest
-    → one ≡ done ++ (codes "warning: " ++ (path ++ (codes ":" ++ (decimal (get_or rest 0 d).line ++ codes ": ")))) → said ≡ line_at bytes (get_or rest 0 d).line
+pub one_warning : (first sentinel : List (List ℕ)) (sentinels : ℕ) (path : List ℕ) (texts : List (List ℕ)) (all done : List ℕ) (rest : List Advice) (d : Advice) (said one two new : List ℕ) → 1 ≤ length rest
+    → one ≡ done ++ (codes "warning: " ++ (path ++ (codes ":" ++ (decimal (get_or rest 0 d).line ++ codes ": ")))) → said ≡ line_at texts (get_or rest 0 d).line
     → two ≡ one ++ told_words first sentinel sentinels said (get_or rest 0 d).kind → new ≡ two ++ codes "\n"
-    → all ≡ done ++ flat_map (warning first sentinel sentinels path bytes) rest
-    → all ≡ new ++ flat_map (warning first sentinel sentinels path bytes) (take (length rest - 1) (drop 1 rest))
-one_warning first sentinel sentinels path bytes all done rest d said one two new l o i w n h =
+    → all ≡ done ++ flat_map (warning first sentinel sentinels path texts) rest
+    → all ≡ new ++ flat_map (warning first sentinel sentinels path texts) (take (length rest - 1) (drop 1 rest))
+one_warning first sentinel sentinels path texts all done rest d said one two new l o i w n h =
     let advice = get_or rest 0 d in
-    one_more (warning first sentinel sentinels path bytes) all done rest d new l
-    (pieces done (codes "warning: ") path (codes ":") (decimal advice.line) (codes ": ") (told_words first sentinel sentinels (line_at bytes advice.line) advice.kind) (codes "\n")
+    one_more (warning first sentinel sentinels path texts) all done rest d new l
+    (pieces done (codes "warning: ") path (codes ":") (decimal advice.line) (codes ": ") (told_words first sentinel sentinels (line_at texts advice.line) advice.kind) (codes "\n")
     one two new o (w ∙ ap (λ t. one ++ told_words first sentinel sentinels t advice.kind) i) n) h
 
 -- five words and numbers, added one after the other

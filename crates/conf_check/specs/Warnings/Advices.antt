@@ -1,7 +1,6 @@
 -- What is told of a file, line by line, though it is no fault.
 use Rattle.std.specs.Prelude.{ℕ, ◌+◌, Bool, true, false, ◌==◌, nat_lt, List, [], ◌∷◌, ◌++◌, Option, Some, None, bytes_eq, codes}
 use Rattle.std.specs.List.{list_any}
-use Rattle.ballot_law.specs.Cuts.{lines}
 use Rattle.ballot_law.specs.Orders.{same_bytes}
 use Rattle.ballot_law.specs.Words.{lower, some_if}
 use Rattle.conf_lines.specs.declared.lines.StateLine.{StateLine}
@@ -66,5 +65,5 @@ advices_from first sentinel sentinels number [] = []
 advices_from first sentinel sentinels number (text ∷ texts) =
     at_line number (line_advice first sentinel sentinels text) ++ advices_from first sentinel sentinels (number + 1) texts
 
-abbrev pub advices : List (List ℕ) → List (List ℕ) → ℕ → List ℕ → List Advice
-advices first sentinel sentinels bytes = advices_from first sentinel sentinels 1 (lines bytes)
+abbrev pub advices : List (List ℕ) → List (List ℕ) → ℕ → List (List ℕ) → List Advice
+advices first sentinel sentinels texts = advices_from first sentinel sentinels 1 texts

@@ -1,7 +1,6 @@
 -- What is told of a file, as lines of text.
 use Rattle.std.specs.Prelude.{◌≡◌, ℕ, ◌-◌, Bool, true, false, List, [], ◌++◌, Option, Some, None, codes, decimal, slice_index_or}
 use Rattle.std.specs.List.{flat_map}
-use Rattle.ballot_law.specs.Cuts.{lines}
 use Rattle.sentinel_conf.specs.declared.watch.faults.WatchKind.{WatchKind}
 use Rattle.sentinel_conf.specs.declared.watch.faults.WatchKind.TheVariants as watch
 use Rattle.sentinel_conf.specs.declared.watch.settings.Setting.{Setting}
@@ -16,8 +15,8 @@ use Rattle.conf_check.specs.declared.warnings.line_advices.TheConstants.{DOWN_AF
 use Rattle.conf_check.specs.Warnings.Advices.{advices, nearest_directive}
 
 -- the line with this number, the first being 1
-abbrev pub line_at : List ℕ → (number : ℕ) → List ℕ
-line_at bytes number = slice_index_or (lines bytes) (number - 1) []
+abbrev pub line_at : (texts : List (List ℕ)) → (number : ℕ) → List ℕ
+line_at texts number = slice_index_or texts (number - 1) []
 
 -- the nearest directive that a Redis knows, where one is near
 abbrev pub nearest_words : Option (List ℕ) → List ℕ
@@ -64,11 +63,11 @@ told_words first sentinel sentinels text (ShortDownAfter ms) =
     codes "after " ++ (decimal ms
     ++ (codes " ms a node that is well can count as down, and be failed over; from " ++ (decimal DOWN_AFTER_MIN ++ codes " or more")))
 
-abbrev pub warning : (first sentinel : List (List ℕ)) → (sentinels : ℕ) → (path bytes : List ℕ) → Advice → List ℕ
-warning first sentinel sentinels path bytes advice =
+abbrev pub warning : (first sentinel : List (List ℕ)) → (sentinels : ℕ) → (path : List ℕ) → (texts : List (List ℕ)) → Advice → List ℕ
+warning first sentinel sentinels path texts advice =
     codes "warning: " ++ (path ++ (codes ":" ++ (decimal advice.line
-    ++ (codes ": " ++ (told_words first sentinel sentinels (line_at bytes advice.line) advice.kind ++ codes "\n")))))
+    ++ (codes ": " ++ (told_words first sentinel sentinels (line_at texts advice.line) advice.kind ++ codes "\n")))))
 
 -- a line for each thing that is told of the file
-abbrev pub warnings : (first sentinel : List (List ℕ)) → (sentinels : ℕ) → (path bytes : List ℕ) → List ℕ
-warnings first sentinel sentinels path bytes = flat_map (warning first sentinel sentinels path bytes) (advices first sentinel sentinels bytes)
+abbrev pub warnings : (first sentinel : List (List ℕ)) → (sentinels : ℕ) → (path : List ℕ) → (texts : List (List ℕ)) → List ℕ
+warnings first sentinel sentinels path texts = flat_map (warning first sentinel sentinels path texts) (advices first sentinel sentinels texts)

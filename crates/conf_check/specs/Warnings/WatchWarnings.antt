@@ -67,9 +67,9 @@ abbrev pub told_line : (path : List ℕ) → (number : ℕ) → (words : List �
 told_line path number [] = []
 told_line path number (b ∷ bs) = codes "warning: " ++ (path ++ (codes ":" ++ (decimal number ++ (codes ": " ++ ((b ∷ bs) ++ codes "\n")))))
 
-abbrev pub watch_warning : (first sentinel : List (List ℕ)) → (sentinels : ℕ) → (path bytes : List ℕ) → Advice → List ℕ
-watch_warning first sentinel sentinels path bytes advice =
-    told_line path advice.line (watch_words first sentinel sentinels (line_at bytes advice.line) advice.kind)
+abbrev pub watch_warning : (first sentinel : List (List ℕ)) → (sentinels : ℕ) → (path : List ℕ) → (texts : List (List ℕ)) → Advice → List ℕ
+watch_warning first sentinel sentinels path texts advice =
+    told_line path advice.line (watch_words first sentinel sentinels (line_at texts advice.line) advice.kind)
 
 -- a directive that a Redis knows, by which nothing is set or lost
 abbrev pub is_idle_line : (text : List ℕ) → WatchLine → Option (List ℕ) → Bool
@@ -80,9 +80,9 @@ abbrev pub is_idle_kind : AdviceKind → Bool
 is_idle_kind NoEffect = true
 is_idle_kind _ = false
 
-abbrev pub is_idle : (bytes : List ℕ) → Advice → Bool
-is_idle bytes advice = elim (is_idle_kind advice.kind) as (λ _. Bool) [
-  | true ↦ is_idle_line (line_at bytes advice.line) (watch_line (line_at bytes advice.line)) (loss_of (line_at bytes advice.line))
+abbrev pub is_idle : (texts : List (List ℕ)) → Advice → Bool
+is_idle texts advice = elim (is_idle_kind advice.kind) as (λ _. Bool) [
+  | true ↦ is_idle_line (line_at texts advice.line) (watch_line (line_at texts advice.line)) (loss_of (line_at texts advice.line))
   | false ↦ false
 ]
 
@@ -91,23 +91,23 @@ abbrev pub comma : List ℕ → List ℕ
 comma [] = []
 comma (b ∷ bs) = codes ", "
 
-abbrev pub add_place : (bytes text : List ℕ) → Advice → List ℕ
-add_place bytes text advice =
-    text ++ (comma text ++ (decimal advice.line ++ (codes " (" ++ (directive_of (line_at bytes advice.line) ++ codes ")"))))
+abbrev pub add_place : (texts : List (List ℕ)) → (text : List ℕ) → Advice → List ℕ
+add_place texts text advice =
+    text ++ (comma text ++ (decimal advice.line ++ (codes " (" ++ (directive_of (line_at texts advice.line) ++ codes ")"))))
 
-abbrev pub places : (bytes : List ℕ) → List Advice → List ℕ
-places bytes idle = fold (add_place bytes) [] idle
+abbrev pub places : (texts : List (List ℕ)) → List Advice → List ℕ
+places texts idle = fold (add_place texts) [] idle
 
 abbrev pub lines_have : ℕ → List ℕ
 lines_have count = elim (count == 1) as (λ _. List ℕ) [ true ↦ codes " line has no effect here: " | false ↦ codes " lines have no effect here: " ]
 
 -- one line for all lines without an effect
-abbrev pub idle_note : (path bytes : List ℕ) → List Advice → List ℕ
-idle_note path bytes [] = []
-idle_note path bytes (advice ∷ more) =
-    codes "note: " ++ (path ++ (codes ": " ++ (decimal (length (advice ∷ more)) ++ (lines_have (length (advice ∷ more)) ++ (places bytes (advice ∷ more) ++ codes "\n")))))
+abbrev pub idle_note : (path : List ℕ) → (texts : List (List ℕ)) → List Advice → List ℕ
+idle_note path texts [] = []
+idle_note path texts (advice ∷ more) =
+    codes "note: " ++ (path ++ (codes ": " ++ (decimal (length (advice ∷ more)) ++ (lines_have (length (advice ∷ more)) ++ (places texts (advice ∷ more) ++ codes "\n")))))
 
 -- a line for each warning, and then one for the lines without an effect
-abbrev pub watch_warnings : (first sentinel : List (List ℕ)) → (sentinels : ℕ) → (path bytes : List ℕ) → List Advice → List ℕ
-watch_warnings first sentinel sentinels path bytes told =
-    flat_map (watch_warning first sentinel sentinels path bytes) told ++ idle_note path bytes (filter (is_idle bytes) told)
+abbrev pub watch_warnings : (first sentinel : List (List ℕ)) → (sentinels : ℕ) → (path : List ℕ) → (texts : List (List ℕ)) → List Advice → List ℕ
+watch_warnings first sentinel sentinels path texts told =
+    flat_map (watch_warning first sentinel sentinels path texts) told ++ idle_note path texts (filter (is_idle texts) told)

@@ -4,10 +4,12 @@
 use crate::change::changes::{Change, MasterSetting, NewSetting};
 use crate::creation::{add, add_addr, add_own, add_setting, begin};
 use ballot_law::{Addr, Member, Name, NoMemory, Roster, RunId};
-use conf_lines::{Line, Setting, StateLine, line_of};
-use sentinel_conf::{Setting as WatchSetting, WatchLine, line_of as watch_line_of};
+use conf_lines::{Line, Setting, StateLine};
+use sentinel_conf::{
+    ReadLine, Setting as WatchSetting, WatchLine, line_of as watch_line_of, read_lines,
+};
 use std::alloc::Global;
-use tokens::{add_number, run_id_text, split_line};
+use tokens::{add_number, run_id_text};
 
 /// What is done to the lines of each file.
 #[derive(Clone, Copy)]
@@ -177,21 +179,21 @@ fn add_old_setting(
 }
 
 /// Adds what becomes of a line.
-fn add_changed(out: &mut Vec<u8>, line: &[u8], edit: &Edit<'_>) -> Result<(), NoMemory> {
-    match line_of(line) {
-        Line::State(state) => add_state(out, line, &state, edit),
-        Line::Setting(setting) => add_old_setting(out, line, &setting, edit.change),
-        Line::Kept | Line::Faulty(_) => add_line(out, line),
+fn add_changed(out: &mut Vec<u8>, line: &ReadLine<'_>, edit: &Edit<'_>) -> Result<(), NoMemory> {
+    let text = line.text();
+    match line.line() {
+        Line::State(state) => add_state(out, text, state, edit),
+        Line::Setting(setting) => add_old_setting(out, text, setting, edit.change),
+        Line::Kept | Line::Faulty(_) => add_line(out, text),
     }
 }
 
-/// Whether a line of the text sets this already.
-fn sets(text: &[u8], new: &NewSetting) -> bool {
-    let mut rest = text;
-    while !rest.is_empty() {
-        let (line, more) = split_line(rest);
-        match line_of(line) {
-            Line::Setting(setting) if is_set_by(&setting, new) => return true,
+/// Whether one of the lines sets this already.
+fn sets(lines: &[ReadLine<'_>], new: &NewSetting) -> bool {
+    let mut rest = lines;
+    while let [line, more @ ..] = rest {
+        match line.line() {
+            Line::Setting(setting) if is_set_by(setting, new) => return true,
             _ => {}
         }
         rest = more;
@@ -202,7 +204,7 @@ fn sets(text: &[u8], new: &NewSetting) -> bool {
 /// Adds the lines that no line of before becomes, in the file of the Sentinel with this run id.
 fn add_more(
     out: &mut Vec<u8>,
-    text: &[u8],
+    lines: &[ReadLine<'_>],
     roster: &Roster,
     own: &RunId,
     edit: &Edit<'_>,
@@ -214,7 +216,7 @@ fn add_more(
     }
     match edit.change {
         Change::AddReplica(replica) => add_replica(out, &replica.master, replica.addr),
-        Change::Set(new) if !sets(text, new) => add_new_setting(out, new),
+        Change::Set(new) if !sets(lines, new) => add_new_setting(out, new),
         _ => Ok(()),
     }
 }
@@ -227,20 +229,20 @@ pub(crate) fn changed_text(
     own: &RunId,
     edit: &Edit<'_>,
 ) -> Result<Vec<u8>, NoMemory> {
+    let lines = read_lines(alloc, text)?;
     let mut out = Vec::new(alloc);
-    let mut rest = text;
-    while !rest.is_empty() {
-        let (line, more) = split_line(rest);
+    let mut rest = lines.as_slice();
+    while let [line, more @ ..] = rest {
         add_changed(&mut out, line, edit)?;
         rest = more;
     }
-    add_more(&mut out, text, roster, own, edit)?;
+    add_more(&mut out, &lines, roster, own, edit)?;
     Ok(out)
 }
 
 /// Whether a line is about the Sentinel of its file alone: its run id, its votes, where it is.
-fn is_own(alloc: Global, line: &[u8]) -> Result<bool, NoMemory> {
-    match line_of(line) {
+fn is_own(alloc: Global, line: &ReadLine<'_>) -> Result<bool, NoMemory> {
+    match line.line() {
         Line::State(
             StateLine::MyId(_) | StateLine::LeaderEpoch { .. } | StateLine::LeaderId { .. },
         ) => Ok(true),
@@ -249,7 +251,7 @@ fn is_own(alloc: Global, line: &[u8]) -> Result<bool, NoMemory> {
             true,
         ),
         Line::Setting(_) => Ok(false),
-        Line::Kept => match watch_line_of(alloc, line)? {
+        Line::Kept => match watch_line_of(alloc, line.text())? {
             WatchLine::Says(WatchSetting::Bind(_)) => Ok(true),
             _ => Ok(false),
         },
@@ -267,11 +269,11 @@ pub(crate) fn text_for(
 ) -> Result<Vec<u8>, NoMemory> {
     let mut out = Vec::new(alloc);
     add_own(&mut out, new)?;
-    let mut rest = text;
-    while !rest.is_empty() {
-        let (line, more) = split_line(rest);
+    let lines = read_lines(alloc, text)?;
+    let mut rest = lines.as_slice();
+    while let [line, more @ ..] = rest {
         if !is_own(alloc, line)? {
-            add_line(&mut out, line)?;
+            add_line(&mut out, line.text())?;
         }
         rest = more;
     }

@@ -8,10 +8,9 @@ ghost use Rattle.conf_check.specs.Warnings.Advices.{among, kept_advice, nearest_
 use crate::warnings::nearest::nearest;
 use crate::warnings::spelled_names::first_name;
 use ballot_law::Name;
-use conf_lines::{Line, Setting, StateLine, line_of};
-use sentinel_conf::{Directives, is_listed, lowered};
+use conf_lines::{Line, Setting, StateLine};
+use sentinel_conf::{Directives, ReadLine, is_listed, lowered};
 use std::alloc::{AllocError, Global};
-use tokens::split_line;
 
 /// The least `down-after-milliseconds` at which a group whose nodes are well fails over to none: each node is asked
 /// once a second.
@@ -92,13 +91,13 @@ fn line_advice(
     alloc: Global,
     known: &Directives,
     sentinels: u64,
-    text: &[u8],
+    line: &ReadLine<'_>,
 ) -> Result<Option<AdviceKind>, AllocError>
     ensures { IfOk result (λ advice. advice
-        ≡ line_advice (lines known.now.first.now) (lines known.now.sentinel.now) sentinels text.now) }
+        ≡ line_advice (lines known.now.first.now) (lines known.now.sentinel.now) sentinels line.now) }
 {
-    match line_of(text) {
-        Line::Kept => kept_advice(alloc, known, text),
+    match *line.line() {
+        Line::Kept => kept_advice(alloc, known, line.text()),
         Line::State(StateLine::Monitor { quorum, .. }) if u64::from(quorum) > sentinels => {
             Ok(Some(AdviceKind::QuorumOutOfReach(quorum)))
         }
@@ -119,26 +118,25 @@ fn add_at(list: &mut Vec<Advice>, line: u64, found: Option<AdviceKind>) -> Resul
     Ok(())
 }
 
-/// What is told of the file with these bytes, in the order of its lines, in a group of `sentinels` Sentinels. It is no
+/// What is told of the file with these lines, in their order, in a group of `sentinels` Sentinels. It is no
 /// fault: the file is read all the same. AllocError: memory was refused.
 pub fn advices(
     alloc: Global,
     known: &Directives,
     sentinels: u64,
-    bytes: &[u8],
+    file: &[ReadLine<'_>],
 ) -> Result<Vec<Advice>, AllocError>
     ensures { IfOk result (λ list. list.items
-        ≡ advices (lines known.now.first.now) (lines known.now.sentinel.now) sentinels bytes.now) }
+        ≡ advices (lines known.now.first.now) (lines known.now.sentinel.now) sentinels file.now) }
 {
     let mut list = Vec::new(alloc);
     let mut number: u64 = 1;
-    let mut rest = bytes;
-    while !rest.is_empty() {
-        let (text, more) = split_line(rest);
+    let mut rest = file;
+    while let [line, more @ ..] = rest {
         add_at(
             &mut list,
             number,
-            line_advice(alloc, known, sentinels, text)?,
+            line_advice(alloc, known, sentinels, line)?,
         )?;
         number += 1;
         rest = more;

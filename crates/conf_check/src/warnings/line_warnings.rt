@@ -10,9 +10,9 @@ use crate::warnings::line_advices::{
     Advice, AdviceKind, DOWN_AFTER_MIN, advices, nearest_directive,
 };
 use ballot_law::{Name, NoMemory};
-use sentinel_conf::{Directives, Setting, WatchKind, WatchLine, line_of};
+use sentinel_conf::{Directives, ReadLine, Setting, WatchKind, WatchLine, line_of, read_lines};
 use std::alloc::Global;
-use tokens::{add_number, split_line};
+use tokens::add_number;
 
 /// Adds words.
 pub(crate) fn add(out: &mut Vec<u8>, words: &str) -> Result<(), NoMemory>
@@ -23,20 +23,13 @@ pub(crate) fn add(out: &mut Vec<u8>, words: &str) -> Result<(), NoMemory>
 }
 
 /// The text of the line with this number, the first being 1; an empty one where there is none.
-pub(crate) fn line_at(bytes: &[u8], number: u64) -> &[u8]
-    ensures { result.now ≡ line_at bytes.now number }
+pub(crate) fn line_at<'a>(file: &[ReadLine<'a>], number: u64) -> &'a [u8]
+    ensures { result.now ≡ line_at file.now number }
 {
-    let mut left = number.saturating_sub(1);
-    let mut rest = bytes;
-    while !rest.is_empty() {
-        let (text, more) = split_line(rest);
-        if left == 0 {
-            return text;
-        }
-        left -= 1;
-        rest = more;
+    match file.get(number.saturating_sub(1) as usize) {
+        Some(line) => line.text(),
+        None => b"",
     }
-    rest
 }
 
 /// Adds the nearest directive that a Redis knows, where one is near.
@@ -151,24 +144,24 @@ pub(crate) fn begin_warning(out: &mut Vec<u8>, path: &str, line: u64) -> Result<
     add(out, ": ")
 }
 
-/// What is told of the file with these bytes, a line for each.
+/// What is told of the file with these lines, a line for each.
 fn warnings_of(
     alloc: Global,
     known: &Directives,
     sentinels: u64,
     path: &str,
-    bytes: &[u8],
+    file: &[ReadLine<'_>],
 ) -> Result<Vec<u8>, NoMemory>
     ensures { IfOk result (λ text. text.items
-        ≡ warnings (lines known.now.first.now) (lines known.now.sentinel.now) sentinels path.now bytes.now) }
+        ≡ warnings (lines known.now.first.now) (lines known.now.sentinel.now) sentinels path.now file.now) }
 {
-    let list = advices(alloc, known, sentinels, bytes)?;
+    let list = advices(alloc, known, sentinels, file)?;
     let mut text = Vec::new(alloc);
     let mut rest = list.as_slice();
     while let [advice, more @ ..] = rest {
         let Advice { line, kind } = *advice;
         begin_warning(&mut text, path, line)?;
-        let said = line_at(bytes, line);
+        let said = line_at(file, line);
         add_kind(alloc, &mut text, known, sentinels, kind, said)?;
         add(&mut text, "\n")?;
         rest = more;
@@ -187,10 +180,11 @@ pub fn add_warnings(
     bytes: &[u8],
 ) -> Result<(), NoMemory>
     ensures added { OnOk result (out.new.items ≡ out.old.items
-        ++ warnings (lines known.now.first.now) (lines known.now.sentinel.now) sentinels path.now bytes.now) }
+        ++ warnings (lines known.now.first.now) (lines known.now.sentinel.now) sentinels path.now (lines bytes.now)) }
     ensures refused { OnErr result (out.new.items ≡ out.old.items) }
 {
-    let text = warnings_of(alloc, known, sentinels, path, bytes)?;
+    let file = read_lines(alloc, bytes)?;
+    let text = warnings_of(alloc, known, sentinels, path, &file)?;
     out.extend_from_slice(&text)?;
     Ok(())
 }

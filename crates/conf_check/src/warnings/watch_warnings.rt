@@ -13,7 +13,8 @@ use crate::warnings::line_warnings::{add, add_kind, begin_warning, line_at};
 use crate::warnings::losses::{add_directive, loss_of};
 use ballot_law::NoMemory;
 use sentinel_conf::{
-    CLIENTS_MAX, Directives, IDLE_SECONDS_MAX, Setting, WatchKind, WatchLine, line_of,
+    CLIENTS_MAX, Directives, IDLE_SECONDS_MAX, ReadLine, Setting, WatchKind, WatchLine, line_of,
+    read_lines,
 };
 use std::alloc::Global;
 use tokens::add_number;
@@ -155,13 +156,13 @@ fn warning_of(
     known: &Directives,
     sentinels: u64,
     path: &str,
-    bytes: &[u8],
+    file: &[ReadLine<'_>],
     advice: Advice,
 ) -> Result<Vec<u8>, NoMemory>
     ensures { IfOk result (λ line. line.items
-        ≡ watch_warning (lines known.now.first.now) (lines known.now.sentinel.now) sentinels path.now bytes.now advice) }
+        ≡ watch_warning (lines known.now.first.now) (lines known.now.sentinel.now) sentinels path.now file.now advice) }
 {
-    let text = line_at(bytes, advice.line);
+    let text = line_at(file, advice.line);
     let words = words_of(alloc, known, sentinels, text, advice.kind)?;
     told_line(alloc, path, advice.line, &words)
 }
@@ -172,16 +173,16 @@ fn warnings_of(
     known: &Directives,
     sentinels: u64,
     path: &str,
-    bytes: &[u8],
+    file: &[ReadLine<'_>],
     told: &[Advice],
 ) -> Result<Vec<u8>, NoMemory>
     ensures { IfOk result (λ text. text.items ≡ flat_map
-        (watch_warning (lines known.now.first.now) (lines known.now.sentinel.now) sentinels path.now bytes.now) told.now) }
+        (watch_warning (lines known.now.first.now) (lines known.now.sentinel.now) sentinels path.now file.now) told.now) }
 {
     let mut text = Vec::new(alloc);
     let mut rest = told;
     while let [advice, more @ ..] = rest {
-        text.extend_from_slice(&warning_of(alloc, known, sentinels, path, bytes, *advice)?)?;
+        text.extend_from_slice(&warning_of(alloc, known, sentinels, path, file, *advice)?)?;
         rest = more;
     }
     Ok(text)
@@ -198,23 +199,23 @@ fn is_idle_line(alloc: Global, text: &[u8]) -> Result<bool, NoMemory>
 }
 
 /// Whether the advice is about a line that has no effect, and by which nothing is lost.
-fn is_idle(alloc: Global, bytes: &[u8], advice: &Advice) -> Result<bool, NoMemory>
-    ensures { IfOk result (λ idle. idle ≡ is_idle bytes.now advice.now) }
+fn is_idle(alloc: Global, file: &[ReadLine<'_>], advice: &Advice) -> Result<bool, NoMemory>
+    ensures { IfOk result (λ idle. idle ≡ is_idle file.now advice.now) }
 {
     match advice.kind {
-        AdviceKind::NoEffect => is_idle_line(alloc, line_at(bytes, advice.line)),
+        AdviceKind::NoEffect => is_idle_line(alloc, line_at(file, advice.line)),
         _ => Ok(false),
     }
 }
 
 /// Those that are about lines without an effect.
-fn idle_of(alloc: Global, bytes: &[u8], told: &[Advice]) -> Result<Vec<Advice>, NoMemory>
-    ensures { IfOk result (λ idle. idle.items ≡ filter (is_idle bytes.now) told.now) }
+fn idle_of(alloc: Global, file: &[ReadLine<'_>], told: &[Advice]) -> Result<Vec<Advice>, NoMemory>
+    ensures { IfOk result (λ idle. idle.items ≡ filter (is_idle file.now) told.now) }
 {
     let mut idle = Vec::new(alloc);
     let mut rest = told;
     while let [advice, more @ ..] = rest {
-        if is_idle(alloc, bytes, advice)? {
+        if is_idle(alloc, file, advice)? {
             idle.push(*advice)?;
         }
         rest = more;
@@ -223,26 +224,26 @@ fn idle_of(alloc: Global, bytes: &[u8], told: &[Advice]) -> Result<Vec<Advice>, 
 }
 
 /// Adds the number of a line and its directive, after a comma where something stands before them.
-fn add_place(out: &mut Vec<u8>, bytes: &[u8], advice: &Advice) -> Result<(), NoMemory>
-    ensures { OnOk result (out.new.items ≡ add_place bytes.now out.old.items advice.now) }
+fn add_place(out: &mut Vec<u8>, file: &[ReadLine<'_>], advice: &Advice) -> Result<(), NoMemory>
+    ensures { OnOk result (out.new.items ≡ add_place file.now out.old.items advice.now) }
 {
     if !out.is_empty() {
         add(out, ", ")?;
     }
     add_number(out, advice.line)?;
     add(out, " (")?;
-    add_directive(out, line_at(bytes, advice.line))?;
+    add_directive(out, line_at(file, advice.line))?;
     add(out, ")")
 }
 
 /// The numbers of these lines and their directives.
-fn places(alloc: Global, bytes: &[u8], idle: &[Advice]) -> Result<Vec<u8>, NoMemory>
-    ensures { IfOk result (λ text. text.items ≡ places bytes.now idle.now) }
+fn places(alloc: Global, file: &[ReadLine<'_>], idle: &[Advice]) -> Result<Vec<u8>, NoMemory>
+    ensures { IfOk result (λ text. text.items ≡ places file.now idle.now) }
 {
     let mut text = Vec::new(alloc);
     let mut rest = idle;
     while let [advice, more @ ..] = rest {
-        add_place(&mut text, bytes, advice)?;
+        add_place(&mut text, file, advice)?;
         rest = more;
     }
     Ok(text)
@@ -260,8 +261,13 @@ fn add_count(out: &mut Vec<u8>, count: u64) -> Result<(), NoMemory>
 }
 
 /// One line for all lines without an effect; an empty text where there are none.
-fn idle_note(alloc: Global, path: &str, bytes: &[u8], idle: &[Advice]) -> Result<Vec<u8>, NoMemory>
-    ensures { IfOk result (λ text. text.items ≡ idle_note path.now bytes.now idle.now) }
+fn idle_note(
+    alloc: Global,
+    path: &str,
+    file: &[ReadLine<'_>],
+    idle: &[Advice],
+) -> Result<Vec<u8>, NoMemory>
+    ensures { IfOk result (λ text. text.items ≡ idle_note path.now file.now idle.now) }
 {
     let mut text = Vec::new(alloc);
     if idle.is_empty() {
@@ -271,7 +277,7 @@ fn idle_note(alloc: Global, path: &str, bytes: &[u8], idle: &[Advice]) -> Result
     add(&mut text, path)?;
     add(&mut text, ": ")?;
     add_count(&mut text, idle.len() as u64)?;
-    text.extend_from_slice(&places(alloc, bytes, idle)?)?;
+    text.extend_from_slice(&places(alloc, file, idle)?)?;
     add(&mut text, "\n")?;
     Ok(text)
 }
@@ -290,14 +296,15 @@ pub fn add_watch_warnings(
     bytes: &[u8],
 ) -> Result<(), NoMemory>
     ensures added { OnOk result (out.new.items ≡ out.old.items
-        ++ watch_warnings (lines known.now.first.now) (lines known.now.sentinel.now) sentinels path.now bytes.now
-        (advices (lines known.now.first.now) (lines known.now.sentinel.now) sentinels bytes.now)) }
+        ++ watch_warnings (lines known.now.first.now) (lines known.now.sentinel.now) sentinels path.now (lines bytes.now)
+        (advices (lines known.now.first.now) (lines known.now.sentinel.now) sentinels (lines bytes.now))) }
     ensures refused { OnErr result (out.new.items ≡ out.old.items) }
 {
-    let told = advices(alloc, known, sentinels, bytes)?;
-    let mut text = warnings_of(alloc, known, sentinels, path, bytes, &told)?;
-    let idle = idle_of(alloc, bytes, &told)?;
-    text.extend_from_slice(&idle_note(alloc, path, bytes, &idle)?)?;
+    let file = read_lines(alloc, bytes)?;
+    let told = advices(alloc, known, sentinels, &file)?;
+    let mut text = warnings_of(alloc, known, sentinels, path, &file, &told)?;
+    let idle = idle_of(alloc, &file, &told)?;
+    text.extend_from_slice(&idle_note(alloc, path, &file, &idle)?)?;
     out.extend_from_slice(&text)?;
     Ok(())
 }

@@ -5,9 +5,9 @@ use Rattle.conf_check.proofs.warnings.line_advices.advices.Given as goal
 
 abbrev pub invariant-loop-rest : goal.invariant-loop-rest
 invariant-loop-rest l = record {
-  told : advices_from (lines l.fn.known.first.now) (lines l.fn.known.sentinel.now) l.fn.sentinels 1 (lines l.bytes)
-      ≡ l.list.items ++ advices_from (lines l.fn.known.first.now) (lines l.fn.known.sentinel.now) l.fn.sentinels l.number (lines l.rest);
-  counted : l.number + length l.rest ≤ length l.bytes + 1;
+  told : advices_from (lines l.fn.known.first.now) (lines l.fn.known.sentinel.now) l.fn.sentinels 1 l.file
+      ≡ l.list.items ++ advices_from (lines l.fn.known.first.now) (lines l.fn.known.sentinel.now) l.fn.sentinels l.number l.rest;
+  counted : l.number + length l.rest ≤ length l.file + 1;
 }
 
 abbrev pub decreases-loop-rest : goal.decreases-loop-rest

@@ -9,8 +9,8 @@ abbrev pub invariant-loop-rest : goal.invariant-loop-rest
 invariant-loop-rest l =
     let first = lines l.fn.known.first.now in
     let sentinel = lines l.fn.known.sentinel.now in
-    warnings first sentinel l.fn.sentinels l.fn.path l.fn.bytes
-    ≡ l.text.items ++ flat_map (warning first sentinel l.fn.sentinels l.fn.path l.fn.bytes) l.rest
+    warnings first sentinel l.fn.sentinels l.fn.path l.fn.file
+    ≡ l.text.items ++ flat_map (warning first sentinel l.fn.sentinels l.fn.path l.fn.file) l.rest
 
 abbrev pub decreases-loop-rest : goal.decreases-loop-rest
 decreases-loop-rest l = length l.rest
