@@ -6,7 +6,6 @@ use Rattle.std.proofs.lemmas.List.Folds.{list_any-append}
 use Rattle.std.proofs.lemmas.Bool.{or_from}
 use Rattle.conf_lines.specs.declared.faults.ConfKind.{ConfKind}
 use Rattle.conf_lines.specs.declared.faults.ConfKind.TheVariants.{Twice}
-use Rattle.conf_lines.specs.declared.faults.ConfFault.{ConfFault}
 use Rattle.conf_lines.specs.declared.lines.StateLine.{StateLine}
 use Rattle.conf_lines.specs.declared.lines.Line.{Line}
 use Rattle.conf_lines.specs.declared.lines.Line.TheVariants as line
@@ -14,7 +13,6 @@ use Rattle.ballot_law.specs.Words.{some_if}
 use Rattle.conf_lines.specs.Lines.{line_of, spelled, same_key}
 use Rattle.sentinel_conf.specs.Meaning.{states, settings, state_of, setting_of, is_kept}
 use Rattle.sentinel_conf.specs.Reading.{at_line, faults, first_of, line_fault, first_fault, kept_lines_of}
-use Rattle.conf_lines.specs.Faults.{fault_at}
 use Rattle.sentinel_conf.proofs.SetLemmas.{In, each_in}
 use Rattle.conf_lines.proofs.StateLemmas.{IsState, line_of-spelled}
 use Rattle.sentinel_conf.proofs.FileLemmas.{Apart}

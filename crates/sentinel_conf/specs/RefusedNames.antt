@@ -1,5 +1,5 @@
 -- The masters that a file would name, if it were read: a line `sentinel monitor` at fault.
-use Rattle.std.specs.Prelude.{ℕ, Bool, true, false, ◌&&◌, List, [], ◌∷◌, Option, Some, None, bytes_eq, codes}
+use Rattle.std.specs.Prelude.{ℕ, Bool, true, false, ◌&&◌, List, ◌∷◌, Option, Some, None, bytes_eq, codes}
 use Rattle.ballot_law.specs.Words.{lower, name}
 use Rattle.tokens.specs.Quotes.{redis_words}
 use Rattle.conf_lines.specs.declared.lines.Line.{Line}

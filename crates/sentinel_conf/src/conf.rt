@@ -10,7 +10,7 @@ ghost use Rattle.conf_lines.specs.Faults.{no_memory};
 ghost use Rattle.sentinel_conf.specs.Facts.{IsSoundConf, no_settings};
 
 use crate::conf_text::{ConfText, FILE_MAX};
-use crate::reading::{Parts, check_size, parts_of, place_of};
+use crate::reading::{ConfParts, check_size, parts_of, place_of};
 use crate::settings::Settings;
 use ballot_law::{Kept, NoMemory, Roster};
 use conf_lines::{ConfFault, ConfKind};
@@ -22,7 +22,7 @@ use std::str;
 /// lines that a rewrite keeps. It comes from `read` alone.
 #[derive(Drop)]
 pub struct Conf {
-    parts: Parts,
+    parts: ConfParts,
     place: u16,
 }
 

@@ -26,8 +26,8 @@ pub fn law_read_again()
         conf_of_bytes bytes ≡ Ok conf → IsKeptPart conf kept → length (rewritten conf kept) ≤ FILE_MAX }
 {}
 
-/// Lines that have a fault are refused by the first of all their faults, those that `faults_in` gives: so `read` refuses
-/// a file, unless it is too long or no text.
+/// Lines that have a fault are refused by the first of all their faults, those that `faults_in` gives: so does `read`
+/// refuse a file, unless it is too long or no text.
 pub fn law_first_fault()
     ensures { (texts : List (List ℕ)) → FirstRefuses texts }
 {}

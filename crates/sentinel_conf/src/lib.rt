@@ -44,6 +44,6 @@ pub use store::{
 };
 pub use watch::{
     Bind, BindWord, Binds, CLIENTS_MAX, Directives, EVERYWHERE, IDLE_SECONDS, IDLE_SECONDS_MAX,
-    IPS_MAX, Setting, WatchConf, WatchFault, WatchKind, WatchLine, is_listed, lacks_announce_ip,
-    law_lines_are_text, line_of, lowered, read_watch, redis_text,
+    IPS_MAX, WatchConf, WatchFault, WatchKind, WatchLine, WatchSetting, is_listed,
+    lacks_announce_ip, law_lines_are_text, line_of, lowered, read_watch, redis_text,
 };

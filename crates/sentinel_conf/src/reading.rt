@@ -42,7 +42,7 @@ use std::marker::Model;
 
 /// What a file says: the lines that a rewrite keeps, the roster, the settings, and what the state lines hold.
 #[derive(Drop)]
-pub struct Parts {
+pub struct ConfParts {
     kept_lines: Vec<u8>,
     roster: Roster,
     id: RunId,
@@ -52,7 +52,7 @@ pub struct Parts {
     fixed: FixedLines,
 }
 
-impl Model for Parts {
+impl Model for ConfParts {
     ghost use Rattle.std.specs.Prelude.{◌≡◌};
     ghost use Rattle.std.specs.List.{flat_map};
     ghost use Rattle.ballot_law.specs.Cuts.{lines};
@@ -76,7 +76,7 @@ impl Model for Parts {
         × IsFixedText parts.id parts.roster parts.fixed };
 }
 
-impl Parts {
+impl ConfParts {
     /// These parts. The lines are each ended by LF, and the fixed ones are those of the run id and the roster.
     ///
     /// Many parameters: each part of a file is read by itself, and only here are all of them known.
@@ -88,7 +88,7 @@ impl Parts {
         settings: Vec<Settings>,
         kept: Kept,
         fixed: FixedLines,
-    ) -> Parts
+    ) -> ConfParts
         requires lines { kept_lines.items ≡ flat_map ended (lines kept_lines.items) }
         requires fixed { IsFixedText id roster fixed }
         ensures { result ≡ record {
@@ -100,7 +100,7 @@ impl Parts {
           kept = kept;
         } }
     {
-        Parts {
+        ConfParts {
             kept_lines,
             roster,
             id,
@@ -241,7 +241,7 @@ fn assembled(
     file: FileLines,
     given: Vec<Name>,
     id: RunId,
-) -> Result<Parts, ConfFault>
+) -> Result<ConfParts, ConfFault>
     requires lines { file.kept.items ≡ flat_map ended (lines file.kept.items) }
     requires names { given.items ≡ filter_map name_of file.states.items }
     ensures { MatchResult result
@@ -260,7 +260,7 @@ fn assembled(
     let settings = all_settings_of(alloc, &file.settings, &names)?;
     let port = own_port(&file.settings);
     let fixed = fixed_of(alloc, id, &roster)?;
-    Ok(Parts::new(file.kept, roster, id, port, settings, kept, fixed))
+    Ok(ConfParts::new(file.kept, roster, id, port, settings, kept, fixed))
 }
 
 /// What the lines of these bytes say, or the first of all their faults.
@@ -286,7 +286,7 @@ fn faultless(alloc: Global, bytes: &[u8]) -> Result<FileLines, ConfFault>
 }
 
 /// What these bytes say, or the first fault but for those of the size.
-pub fn parts_of(alloc: Global, bytes: &[u8]) -> Result<Parts, ConfFault>
+pub fn parts_of(alloc: Global, bytes: &[u8]) -> Result<ConfParts, ConfFault>
     requires { IsUtf8 bytes.now }
     ensures { MatchResult result
         (λ parts. conf_of_lines (lines bytes.now) ≡ sized parts)
@@ -328,7 +328,7 @@ fn at_last_epochs(alloc: Global, masters: &[KeptMaster]) -> Result<Vec<KeptMaste
 }
 
 /// Refuses parts whose longest rewritten file is too long.
-pub fn check_size(alloc: Global, parts: &Parts) -> Result<(), ConfFault>
+pub fn check_size(alloc: Global, parts: &ConfParts) -> Result<(), ConfFault>
     ensures { MatchResult result
         (λ _. length (rewritten parts.now (longest parts.now.kept)) ≤ FILE_MAX)
         (λ fault. (fault ≡ no_memory) ⊎ ((fault ≡ fault_at 0 TooLong)

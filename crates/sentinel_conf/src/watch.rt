@@ -28,5 +28,5 @@ pub use directives::line_of;
 pub use faults::{WatchFault, WatchKind};
 pub use known_directives::{Directives, is_listed, lowered};
 pub use redis_texts::{law_lines_are_text, redis_text};
-pub use settings::{CLIENTS_MAX, IDLE_SECONDS, IDLE_SECONDS_MAX, Setting, WatchLine};
+pub use settings::{CLIENTS_MAX, IDLE_SECONDS, IDLE_SECONDS_MAX, WatchLine, WatchSetting};
 pub use watch_confs::{WatchConf, read_watch};

@@ -5,17 +5,17 @@ use Rattle.sentinel_cell.specs.Histories.{World}
 use Rattle.sentinel_conf.specs.Meaning.{ConfPlan, last}
 use Rattle.sentinel_conf.specs.Rewritten.{rewritten}
 use Rattle.sentinel_conf.specs.Watch.WatchLines.{reboot_of}
-use Rattle.sentinel_conf.specs.declared.watch.settings.Setting.{Setting}
+use Rattle.sentinel_conf.specs.declared.watch.settings.WatchSetting.{WatchSetting}
 use Rattle.sentinel_rules.specs.declared.profiles.Profile.{Profile}
 use Rattle.sentinel_rules.specs.Plans.{group_size, me}
 use Rattle.sentinel_rules.specs.States.{opened}
 
 -- for how many milliseconds this master may load its data after a restart, as the lines of a file say it: 0, as without a line, is for ever
-abbrev pub reboot_in : List Setting → MasterPlan → ℕ
+abbrev pub reboot_in : List WatchSetting → MasterPlan → ℕ
 reboot_in settings master = last (reboot_of master.name) 0 settings
 
 -- and each master of a roster, in its order
-abbrev pub reboots_in : List Setting → Roster → List ℕ
+abbrev pub reboots_in : List WatchSetting → Roster → List ℕ
 reboots_in settings roster = map (reboot_in settings) roster.masters
 
 -- It is the Sentinel of this conf and profile, in its place, whose masters may load their data for so long, as it is opened at this reading of the clock: it has stored

@@ -8,7 +8,7 @@ use Rattle.ballot_law.specs.Rosters.{Roster, MasterPlan}
 use Rattle.links.specs.Speaking.{command_bytes}
 use Rattle.sentinel_conf.specs.Meaning.{last}
 use Rattle.sentinel_conf.specs.Watch.WatchLines.{node_pass_of, node_user_of}
-use Rattle.sentinel_conf.specs.declared.watch.settings.Setting.{Setting}
+use Rattle.sentinel_conf.specs.declared.watch.settings.WatchSetting.{WatchSetting}
 
 -- the words of a login: an empty password is none, an empty user the default one
 pub record Words : Type 0 where
@@ -16,7 +16,7 @@ pub record Words : Type 0 where
   pub pass : List ℕ
 
 -- the login to the nodes of a master, as the lines of a file say it
-abbrev pub login_in : List Setting → MasterPlan → Words
+abbrev pub login_in : List WatchSetting → MasterPlan → Words
 login_in settings master = record {
   user = last (node_user_of master.name) [] settings;
   pass = last (node_pass_of master.name) [] settings;

@@ -6,7 +6,7 @@ use Rattle.ballot_law.specs.declared.steps.KeptText.TheVariants.{New}
 use Rattle.boxed_nodes.specs.declared.calls.HowStored.{HowStored}
 use Rattle.boxed_nodes.specs.declared.calls.HowStored.TheVariants as how
 use Rattle.sentinel_conf.specs.Store.Stores.{Outcome}
-use Rattle.sentinel_conf.specs.declared.store.conf_store.Refusal.{Refusal}
+use Rattle.sentinel_conf.specs.declared.store.conf_store.DueRefusal.{DueRefusal}
 use Rattle.sentinel_conf.specs.Meaning.{ConfPlan}
 use Rattle.sentinel_conf.specs.Reading.{FILE_MAX}
 use Rattle.sentinel_conf.specs.Rewritten.{rewritten, IsKeptPart}
@@ -15,7 +15,7 @@ use Rattle.sentinel_outbox.specs.declared.phase.Phase.{Phase}
 use Rattle.sentinel_outbox.specs.declared.phase.Phase.TheVariants as phase
 
 -- what the file is asked to refuse, so that the next store ends so
-abbrev pub refusal_of : HowStored → Option Refusal
+abbrev pub refusal_of : HowStored → Option DueRefusal
 refusal_of how.Done = None
 refusal_of how.RefusedOld = Some (record { passes = 0; new = false })
 refusal_of how.RefusedNew = Some (record { passes = 0; new = true })

@@ -3,8 +3,8 @@ use Rattle.std.specs.Prelude.{◌≡◌, ℕ, ◌-◌, Bool, true, false, List, 
 use Rattle.std.specs.List.{flat_map}
 use Rattle.sentinel_conf.specs.declared.watch.faults.WatchKind.{WatchKind}
 use Rattle.sentinel_conf.specs.declared.watch.faults.WatchKind.TheVariants as watch
-use Rattle.sentinel_conf.specs.declared.watch.settings.Setting.{Setting}
-use Rattle.sentinel_conf.specs.declared.watch.settings.Setting.TheVariants.{Timeout, DefaultUser, Reboot}
+use Rattle.sentinel_conf.specs.declared.watch.settings.WatchSetting.{WatchSetting}
+use Rattle.sentinel_conf.specs.declared.watch.settings.WatchSetting.TheVariants.{Timeout, DefaultUser, Reboot}
 use Rattle.sentinel_conf.specs.declared.watch.settings.WatchLine.{WatchLine}
 use Rattle.sentinel_conf.specs.declared.watch.settings.WatchLine.TheVariants.{Other, Says, Faulty}
 use Rattle.sentinel_conf.specs.Watch.WatchLines.{watch_line}
@@ -24,7 +24,7 @@ nearest_words None = []
 nearest_words (Some name) = codes "; the nearest is " ++ name
 
 -- what a group in one process tells of what `watch` reads and refuses is as it was before that was more
-abbrev pub tells_setting : Setting → Bool
+abbrev pub tells_setting : WatchSetting → Bool
 tells_setting (Timeout seconds) = false
 tells_setting (DefaultUser digits) = false
 tells_setting (Reboot name ms) = false

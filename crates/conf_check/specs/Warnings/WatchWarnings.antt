@@ -3,8 +3,8 @@ use Rattle.std.specs.Prelude.{◌≡◌, ℕ, Bool, true, false, ◌==◌, nat_l
 use Rattle.std.specs.List.{filter, flat_map}
 use Rattle.sentinel_conf.specs.declared.watch.faults.WatchKind.{WatchKind}
 use Rattle.sentinel_conf.specs.declared.watch.faults.WatchKind.TheVariants as watch
-use Rattle.sentinel_conf.specs.declared.watch.settings.Setting.{Setting}
-use Rattle.sentinel_conf.specs.declared.watch.settings.Setting.TheVariants.{MaxClients, Timeout}
+use Rattle.sentinel_conf.specs.declared.watch.settings.WatchSetting.{WatchSetting}
+use Rattle.sentinel_conf.specs.declared.watch.settings.WatchSetting.TheVariants.{MaxClients, Timeout}
 use Rattle.sentinel_conf.specs.declared.watch.settings.TheConstants.{CLIENTS_MAX, IDLE_SECONDS_MAX}
 use Rattle.sentinel_conf.specs.declared.watch.settings.WatchLine.{WatchLine}
 use Rattle.sentinel_conf.specs.declared.watch.settings.WatchLine.TheVariants.{Other, Says, Faulty}
@@ -31,7 +31,7 @@ abbrev pub seconds_words : (asked : ℕ) → List ℕ
 seconds_words asked = most_words asked IDLE_SECONDS_MAX (codes "timeout: it counts as ") (codes " seconds, the most")
 
 -- a number that is more than counts
-abbrev pub excess_words : Setting → List ℕ
+abbrev pub excess_words : WatchSetting → List ℕ
 excess_words (MaxClients count) = clients_words count
 excess_words (Timeout seconds) = seconds_words seconds
 excess_words _ = []

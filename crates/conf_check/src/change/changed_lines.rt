@@ -5,9 +5,7 @@ use crate::change::changes::{Change, MasterSetting, NewSetting};
 use crate::creation::{add, add_addr, add_own, add_setting, begin};
 use ballot_law::{Addr, Member, Name, NoMemory, Roster, RunId};
 use conf_lines::{Line, Setting, StateLine};
-use sentinel_conf::{
-    ReadLine, Setting as WatchSetting, WatchLine, line_of as watch_line_of, read_lines,
-};
+use sentinel_conf::{ReadLine, WatchLine, WatchSetting, line_of as watch_line_of, read_lines};
 use std::alloc::Global;
 use tokens::{add_number, run_id_text};
 

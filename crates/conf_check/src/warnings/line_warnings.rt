@@ -10,7 +10,9 @@ use crate::warnings::line_advices::{
     Advice, AdviceKind, DOWN_AFTER_MIN, advices, nearest_directive,
 };
 use ballot_law::{Name, NoMemory};
-use sentinel_conf::{Directives, ReadLine, Setting, WatchKind, WatchLine, line_of, read_lines};
+use sentinel_conf::{
+    Directives, ReadLine, WatchKind, WatchLine, WatchSetting, line_of, read_lines,
+};
 use std::alloc::Global;
 use tokens::add_number;
 
@@ -70,11 +72,12 @@ fn add_short(out: &mut Vec<u8>, ms: u64) -> Result<(), NoMemory>
 
 /// Whether a group in one process tells that `watch` reads this: its notes are as they were before `watch` read
 /// `timeout` and `user`.
-fn tells_setting(setting: &Setting) -> bool
+fn tells_setting(setting: &WatchSetting) -> bool
     ensures { result ≡ tells_setting setting.now }
 {
     match setting {
-        Setting::Timeout(_) | Setting::DefaultUser(_) | Setting::Reboot { .. } => false,
+        WatchSetting::Timeout(_) | WatchSetting::DefaultUser(_) | WatchSetting::Reboot { .. } =>
+            false,
         _ => true,
     }
 }

@@ -13,8 +13,8 @@ use crate::warnings::line_warnings::{add, add_kind, begin_warning, line_at};
 use crate::warnings::losses::{add_directive, loss_of};
 use ballot_law::NoMemory;
 use sentinel_conf::{
-    CLIENTS_MAX, Directives, IDLE_SECONDS_MAX, ReadLine, Setting, WatchKind, WatchLine, line_of,
-    read_lines,
+    CLIENTS_MAX, Directives, IDLE_SECONDS_MAX, ReadLine, WatchKind, WatchLine, WatchSetting,
+    line_of, read_lines,
 };
 use std::alloc::Global;
 use tokens::add_number;
@@ -64,12 +64,12 @@ fn add_seconds(out: &mut Vec<u8>, asked: u32) -> Result<(), NoMemory>
 }
 
 /// Adds that a number is more than counts, where it is.
-fn add_excess(out: &mut Vec<u8>, setting: &Setting) -> Result<(), NoMemory>
+fn add_excess(out: &mut Vec<u8>, setting: &WatchSetting) -> Result<(), NoMemory>
     ensures { OnOk result (out.new.items ≡ out.old.items ++ excess_words setting.now) }
 {
     match setting {
-        Setting::MaxClients(count) => add_clients(out, *count),
-        Setting::Timeout(seconds) => add_seconds(out, *seconds),
+        WatchSetting::MaxClients(count) => add_clients(out, *count),
+        WatchSetting::Timeout(seconds) => add_seconds(out, *seconds),
         _ => Ok(()),
     }
 }

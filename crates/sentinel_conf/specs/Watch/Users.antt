@@ -7,7 +7,7 @@ use Rattle.ballot_law.specs.Orders.{same_bytes}
 use Rattle.ballot_law.specs.Words.{lower, some_if}
 use Rattle.sentinel_conf.specs.declared.watch.faults.WatchKind.{WatchKind}
 use Rattle.sentinel_conf.specs.declared.watch.faults.WatchKind.TheVariants.{AclUser}
-use Rattle.sentinel_conf.specs.declared.watch.settings.Setting.TheVariants.{DefaultUser}
+use Rattle.sentinel_conf.specs.declared.watch.settings.WatchSetting.TheVariants.{DefaultUser}
 use Rattle.sentinel_conf.specs.declared.watch.settings.WatchLine.{WatchLine}
 use Rattle.sentinel_conf.specs.declared.watch.settings.WatchLine.TheVariants as line
 

@@ -10,8 +10,8 @@ use Rattle.sentinel_conf.specs.Meaning.{ConfPlan, last}
 use Rattle.sentinel_conf.specs.declared.watch.faults.WatchKind.{WatchKind}
 use Rattle.sentinel_conf.specs.declared.watch.faults.WatchKind.TheVariants.{OtherPassword, NoAnnounceIp, NoMemory}
 use Rattle.sentinel_conf.specs.declared.watch.faults.WatchFault.{WatchFault}
-use Rattle.sentinel_conf.specs.declared.watch.settings.Setting.{Setting}
-use Rattle.sentinel_conf.specs.declared.watch.settings.Setting.TheVariants.{DefaultUser}
+use Rattle.sentinel_conf.specs.declared.watch.settings.WatchSetting.{WatchSetting}
+use Rattle.sentinel_conf.specs.declared.watch.settings.WatchSetting.TheVariants.{DefaultUser}
 use Rattle.sentinel_conf.specs.declared.watch.settings.WatchLine.{WatchLine}
 use Rattle.sentinel_conf.specs.declared.watch.settings.WatchLine.TheVariants.{Other, Says, Faulty}
 use Rattle.sentinel_conf.specs.Watch.Users.{hash_of}
@@ -25,18 +25,18 @@ abbrev pub no_memory : WatchFault
 no_memory = fault_at 0 NoMemory
 
 -- these settings before those, where no line is faulty
-abbrev pub settings_first : List Setting → Result (List Setting) WatchFault → Result (List Setting) WatchFault
+abbrev pub settings_first : List WatchSetting → Result (List WatchSetting) WatchFault → Result (List WatchSetting) WatchFault
 settings_first settings (Ok others) = Ok (settings ++ others)
 settings_first settings (Err fault) = Err fault
 
 -- what comes of a line with this number, before what comes of those after it
-abbrev pub after_line : ℕ → WatchLine → Result (List Setting) WatchFault → Result (List Setting) WatchFault
+abbrev pub after_line : ℕ → WatchLine → Result (List WatchSetting) WatchFault → Result (List WatchSetting) WatchFault
 after_line number Other others = others
 after_line number (Says setting) others = settings_first (setting ∷ []) others
 after_line number (Faulty kind) others = Err (fault_at number kind)
 
 -- the settings of these lines in order, or the fault of the first faulty one; the first line has this number
-abbrev pub settings_from : ℕ → List (List ℕ) → Result (List Setting) WatchFault
+abbrev pub settings_from : ℕ → List (List ℕ) → Result (List WatchSetting) WatchFault
 settings_from number [] = Ok []
 settings_from number (text ∷ texts) = after_line number (watch_line text) (settings_from (number + 1) texts)
 
@@ -45,7 +45,7 @@ abbrev pub pass_or : (peer own : List ℕ) → List ℕ
 pass_or [] own = own
 pass_or (b ∷ bs) own = b ∷ bs
 
-abbrev pub sent_pass : List Setting → List ℕ
+abbrev pub sent_pass : List WatchSetting → List ℕ
 sent_pass settings = pass_or (last peer_pass_of [] settings) (last own_pass_of [] settings)
 
 -- the user beside it: that of `sentinel sentinel-user`, and the default one beside the own password
@@ -53,7 +53,7 @@ abbrev pub user_beside : (peer user : List ℕ) → List ℕ
 user_beside [] user = []
 user_beside (b ∷ bs) user = user
 
-abbrev pub sent_user : List Setting → List ℕ
+abbrev pub sent_user : List WatchSetting → List ℕ
 sent_user settings = user_beside (last peer_pass_of [] settings) (last peer_user_of [] settings)
 
 -- a line has another hash of the default user's password than this
@@ -71,7 +71,7 @@ other_hash_line hash number (text ∷ texts) =
     elim (says_other_hash hash text) as (λ _. Option ℕ) [ true ↦ Some number | false ↦ other_hash_line hash (number + 1) texts ]
 
 -- the hash is to be that of the own password
-abbrev pub other_password_line : List Setting → List ℕ → Option ℕ
+abbrev pub other_password_line : List WatchSetting → List ℕ → Option ℕ
 other_password_line settings bytes = other_hash_line (hash_of (last own_pass_of [] settings)) 1 (lines bytes)
 
 -- an address is on the loopback of its machine
@@ -96,17 +96,17 @@ has_foreign_sentinel roster = list_any (λ member. not (is_loopback member.addr)
 abbrev pub lacks_announce_ip : ConfPlan → Bool
 lacks_announce_ip conf = is_known_by_loopback conf.id conf.roster && (has_foreign_sentinel conf.roster || has_foreign_master conf.roster)
 
-abbrev pub reached : Bool → List Setting → Result (List Setting) WatchFault
-reached lacking settings = elim lacking as (λ _. Result (List Setting) WatchFault) [ true ↦ Err (fault_at 0 NoAnnounceIp) | false ↦ Ok settings ]
+abbrev pub reached : Bool → List WatchSetting → Result (List WatchSetting) WatchFault
+reached lacking settings = elim lacking as (λ _. Result (List WatchSetting) WatchFault) [ true ↦ Err (fault_at 0 NoAnnounceIp) | false ↦ Ok settings ]
 
-abbrev pub with_password : Option ℕ → (lacking : Bool) → List Setting → Result (List Setting) WatchFault
+abbrev pub with_password : Option ℕ → (lacking : Bool) → List WatchSetting → Result (List WatchSetting) WatchFault
 with_password (Some number) lacking settings = Err (fault_at number OtherPassword)
 with_password None lacking settings = reached lacking settings
 
-abbrev pub judged : (lacking : Bool) → List ℕ → Result (List Setting) WatchFault → Result (List Setting) WatchFault
+abbrev pub judged : (lacking : Bool) → List ℕ → Result (List WatchSetting) WatchFault → Result (List WatchSetting) WatchFault
 judged lacking bytes (Ok settings) = with_password (other_password_line settings bytes) lacking settings
 judged lacking bytes (Err fault) = Err fault
 
 -- the settings of a file that says this, or its first fault
-abbrev pub watch_settings : ConfPlan → List ℕ → Result (List Setting) WatchFault
+abbrev pub watch_settings : ConfPlan → List ℕ → Result (List WatchSetting) WatchFault
 watch_settings conf bytes = judged (lacks_announce_ip conf) bytes (settings_from 1 (lines bytes))

@@ -6,8 +6,8 @@ use Rattle.ballot_law.specs.Words.{some_if, name, number_within, lower}
 use Rattle.tokens.specs.Quotes.{is_comment, redis_words}
 use Rattle.sentinel_conf.specs.declared.watch.faults.WatchKind.{WatchKind}
 use Rattle.sentinel_conf.specs.declared.watch.faults.WatchKind.TheVariants.{BadDirective, BadName, BadNumber, BadSeconds, BadMillis, BadBind, BadYesNo, BadQuotes, NamesOfHosts, AclFile, Include, TlsPort, TlsReplication, TlsSetting, RenamedCommand, UnknownDirective, ByteOrderMark}
-use Rattle.sentinel_conf.specs.declared.watch.settings.Setting.{Setting}
-use Rattle.sentinel_conf.specs.declared.watch.settings.Setting.TheVariants.{Bind, NodePass, NodeUser, OwnPass, PeerPass, PeerUser, Reboot, MaxClients, Timeout, ProtectedMode, DefaultUser}
+use Rattle.sentinel_conf.specs.declared.watch.settings.WatchSetting.{WatchSetting}
+use Rattle.sentinel_conf.specs.declared.watch.settings.WatchSetting.TheVariants.{Bind, NodePass, NodeUser, OwnPass, PeerPass, PeerUser, Reboot, MaxClients, Timeout, ProtectedMode, DefaultUser}
 use Rattle.sentinel_conf.specs.declared.watch.binds.Bind.{Bind as BindAt}
 use Rattle.sentinel_conf.specs.declared.watch.settings.WatchLine.{WatchLine}
 use Rattle.sentinel_conf.specs.declared.watch.settings.WatchLine.TheVariants as line
@@ -179,46 +179,46 @@ abbrev pub watch_line : List ℕ → WatchLine
 watch_line text = elim (is_comment text) as (λ _. WatchLine) [ true ↦ line.Other | false ↦ unmarked (has_mark text) text ]
 
 -- what a setting gives, where it gives anything of the kind
-abbrev pub binds_of : Setting → Option (List BindAt)
+abbrev pub binds_of : WatchSetting → Option (List BindAt)
 binds_of (Bind binds) = Some binds
 binds_of _ = None
 
-abbrev pub node_pass_of : List ℕ → Setting → Option (List ℕ)
+abbrev pub node_pass_of : List ℕ → WatchSetting → Option (List ℕ)
 node_pass_of name (NodePass other pass) = some_if (same_bytes name other) pass
 node_pass_of name _ = None
 
-abbrev pub node_user_of : List ℕ → Setting → Option (List ℕ)
+abbrev pub node_user_of : List ℕ → WatchSetting → Option (List ℕ)
 node_user_of name (NodeUser other user) = some_if (same_bytes name other) user
 node_user_of name _ = None
 
-abbrev pub own_pass_of : Setting → Option (List ℕ)
+abbrev pub own_pass_of : WatchSetting → Option (List ℕ)
 own_pass_of (OwnPass pass) = Some pass
 own_pass_of _ = None
 
-abbrev pub peer_pass_of : Setting → Option (List ℕ)
+abbrev pub peer_pass_of : WatchSetting → Option (List ℕ)
 peer_pass_of (PeerPass pass) = Some pass
 peer_pass_of _ = None
 
-abbrev pub peer_user_of : Setting → Option (List ℕ)
+abbrev pub peer_user_of : WatchSetting → Option (List ℕ)
 peer_user_of (PeerUser user) = Some user
 peer_user_of _ = None
 
-abbrev pub reboot_of : List ℕ → Setting → Option ℕ
+abbrev pub reboot_of : List ℕ → WatchSetting → Option ℕ
 reboot_of name (Reboot other ms) = some_if (same_bytes name other) ms
 reboot_of name _ = None
 
-abbrev pub clients_of : Setting → Option ℕ
+abbrev pub clients_of : WatchSetting → Option ℕ
 clients_of (MaxClients count) = Some count
 clients_of _ = None
 
-abbrev pub seconds_of : Setting → Option ℕ
+abbrev pub seconds_of : WatchSetting → Option ℕ
 seconds_of (Timeout seconds) = Some seconds
 seconds_of _ = None
 
-abbrev pub protected_of : Setting → Option Bool
+abbrev pub protected_of : WatchSetting → Option Bool
 protected_of (ProtectedMode on) = Some on
 protected_of _ = None
 
-abbrev pub default_of : Setting → Option (List ℕ)
+abbrev pub default_of : WatchSetting → Option (List ℕ)
 default_of (DefaultUser digits) = Some digits
 default_of _ = None

@@ -70,7 +70,7 @@ pub trait ConfStore {
 
 /// A refusal that a store in memory was asked for.
 #[derive(Clone, Copy)]
-pub(crate) struct Refusal {
+pub(crate) struct DueRefusal {
     /// How many replacements are served before it.
     passes: u32,
     /// Which text stands behind it.
@@ -82,7 +82,7 @@ pub(crate) struct Refusal {
 pub struct MemoryStore {
     text: Vec<u8>,
     failed: u64,
-    refusal: Option<Refusal>,
+    refusal: Option<DueRefusal>,
 }
 
 impl Model for MemoryStore {
@@ -151,7 +151,7 @@ impl MemoryStore {
         ensures { self.new
             ≡ record self.old { refusal = Some (record { passes = passes; new = new }) } }
     {
-        self.refusal = Some(Refusal { passes, new });
+        self.refusal = Some(DueRefusal { passes, new });
     }
 
     /// Has no `replace` be refused, where one was asked to be: what was asked for before is forgotten.
@@ -175,8 +175,8 @@ impl MemoryStore {
             ≡ record self.old { refusal = refusal_left self.old.refusal true } }
     {
         self.refusal = match self.refusal {
-            None | Some(Refusal { passes: 0, .. }) => None,
-            Some(refusal) => Some(Refusal {
+            None | Some(DueRefusal { passes: 0, .. }) => None,
+            Some(refusal) => Some(DueRefusal {
                 passes: refusal.passes - 1,
                 new: refusal.new,
             }),
@@ -241,7 +241,7 @@ impl ConfStore for MemoryStore {
         ensures kept_room { self.old.room ≤ self.new.room }
     {
         match self.refusal {
-            Some(Refusal { passes: 0, new }) => {
+            Some(DueRefusal { passes: 0, new }) => {
                 self.refusal = None;
                 self.failed += 1;
                 if new {

@@ -7,7 +7,7 @@ use crate::watch::binds::bound;
 use crate::watch::faults::WatchKind;
 use crate::watch::guards::{guard_named, is_named};
 use crate::watch::known_directives::is_sentinel_directive;
-use crate::watch::settings::{Setting, WatchLine};
+use crate::watch::settings::{WatchLine, WatchSetting};
 use ballot_law::{Name, NoMemory, Text};
 use std::alloc::Global;
 use tokens::{is_comment, number_of, redis_words};
@@ -46,7 +46,7 @@ fn bind_line(alloc: Global, args: &[Text]) -> Result<WatchLine, NoMemory>
     ensures { IfOk result (λ line. line ≡ bind_line args.now) }
 {
     match bound(alloc, args)? {
-        Some(binds) => Ok(WatchLine::Says(Setting::Bind(binds))),
+        Some(binds) => Ok(WatchLine::Says(WatchSetting::Bind(binds))),
         None => Ok(WatchLine::Faulty(WatchKind::BadBind)),
     }
 }
@@ -63,7 +63,7 @@ fn node_pass_line(alloc: Global, args: &[Text]) -> Result<WatchLine, NoMemory>
         return Ok(WatchLine::Faulty(WatchKind::BadName));
     };
     let pass = copy_of(alloc, pass)?;
-    Ok(WatchLine::Says(Setting::NodePass { name, pass }))
+    Ok(WatchLine::Says(WatchSetting::NodePass { name, pass }))
 }
 
 /// `sentinel auth-user <name> <user>`.
@@ -78,7 +78,7 @@ fn node_user_line(alloc: Global, args: &[Text]) -> Result<WatchLine, NoMemory>
         return Ok(WatchLine::Faulty(WatchKind::BadName));
     };
     let user = copy_of(alloc, user)?;
-    Ok(WatchLine::Says(Setting::NodeUser { name, user }))
+    Ok(WatchLine::Says(WatchSetting::NodeUser { name, user }))
 }
 
 /// `requirepass <password>`.
@@ -89,7 +89,7 @@ fn own_pass_line(alloc: Global, args: &[Text]) -> Result<WatchLine, NoMemory>
         return Ok(WatchLine::Faulty(WatchKind::BadDirective));
     };
     let pass = copy_of(alloc, pass)?;
-    Ok(WatchLine::Says(Setting::OwnPass(pass)))
+    Ok(WatchLine::Says(WatchSetting::OwnPass(pass)))
 }
 
 /// `sentinel sentinel-pass <password>`.
@@ -100,7 +100,7 @@ fn peer_pass_line(alloc: Global, args: &[Text]) -> Result<WatchLine, NoMemory>
         return Ok(WatchLine::Faulty(WatchKind::BadDirective));
     };
     let pass = copy_of(alloc, pass)?;
-    Ok(WatchLine::Says(Setting::PeerPass(pass)))
+    Ok(WatchLine::Says(WatchSetting::PeerPass(pass)))
 }
 
 /// `sentinel sentinel-user <user>`.
@@ -111,7 +111,7 @@ fn peer_user_line(alloc: Global, args: &[Text]) -> Result<WatchLine, NoMemory>
         return Ok(WatchLine::Faulty(WatchKind::BadDirective));
     };
     let user = copy_of(alloc, user)?;
-    Ok(WatchLine::Says(Setting::PeerUser(user)))
+    Ok(WatchLine::Says(WatchSetting::PeerUser(user)))
 }
 
 /// `sentinel master-reboot-down-after-period <name> <milliseconds>`.
@@ -126,7 +126,7 @@ fn reboot_line(args: &[Text]) -> WatchLine
         return WatchLine::Faulty(WatchKind::BadMillis);
     };
     match number_of(ms.as_slice(), 0, COUNT_MAX) {
-        Some(ms) => WatchLine::Says(Setting::Reboot {
+        Some(ms) => WatchLine::Says(WatchSetting::Reboot {
             name,
             ms: ms as u32,
         }),
@@ -142,7 +142,7 @@ fn max_clients_line(args: &[Text]) -> WatchLine
         return WatchLine::Faulty(WatchKind::BadDirective);
     };
     match number_of(count.as_slice(), 1, COUNT_MAX) {
-        Some(count) => WatchLine::Says(Setting::MaxClients(count as u32)),
+        Some(count) => WatchLine::Says(WatchSetting::MaxClients(count as u32)),
         None => WatchLine::Faulty(WatchKind::BadNumber),
     }
 }
@@ -155,7 +155,7 @@ fn timeout_line(args: &[Text]) -> WatchLine
         return WatchLine::Faulty(WatchKind::BadSeconds);
     };
     match number_of(seconds.as_slice(), 0, SECONDS_MAX) {
-        Some(seconds) => WatchLine::Says(Setting::Timeout(seconds as u32)),
+        Some(seconds) => WatchLine::Says(WatchSetting::Timeout(seconds as u32)),
         None => WatchLine::Faulty(WatchKind::BadSeconds),
     }
 }
@@ -168,7 +168,7 @@ fn protected_line(args: &[Text]) -> WatchLine
         return WatchLine::Faulty(WatchKind::BadDirective);
     };
     match yes_or_no(word) {
-        Some(yes) => WatchLine::Says(Setting::ProtectedMode(yes)),
+        Some(yes) => WatchLine::Says(WatchSetting::ProtectedMode(yes)),
         None => WatchLine::Faulty(WatchKind::BadYesNo),
     }
 }

@@ -18,7 +18,7 @@ pub const IDLE_SECONDS: u32 = 3_600;
 
 /// What a line sets. It can't be printed, since it can hold a password.
 #[derive(Drop)]
-pub enum Setting {
+pub enum WatchSetting {
     /// `bind`: the ips at which the port listens.
     Bind(Binds),
     /// `sentinel auth-pass`: the password for the data nodes of a master.
@@ -51,17 +51,17 @@ pub enum Setting {
 pub enum WatchLine {
     /// A line that doesn't count for `watch` alone.
     Other,
-    Says(Setting),
+    Says(WatchSetting),
     Faulty(WatchKind),
 }
 
-impl Setting {
+impl WatchSetting {
     /// The ips at which the port listens.
     pub(crate) fn binds(&self) -> Option<&[Bind]>
         ensures { MatchOption result (binds_of self.now ≡ None) (λ binds. binds_of self.now ≡ Some binds.now) }
     {
         match self {
-            Setting::Bind(binds) => Some(binds.as_slice()),
+            WatchSetting::Bind(binds) => Some(binds.as_slice()),
             _ => None,
         }
     }
@@ -72,7 +72,7 @@ impl Setting {
             (λ pass. node_pass_of name.now self.now ≡ Some pass.now) }
     {
         match self {
-            Setting::NodePass { name: other, pass } => {
+            WatchSetting::NodePass { name: other, pass } => {
                 if is_same_bytes(name.as_slice(), other.as_slice()) {
                     return Some(pass.as_slice());
                 }
@@ -88,7 +88,7 @@ impl Setting {
             (λ user. node_user_of name.now self.now ≡ Some user.now) }
     {
         match self {
-            Setting::NodeUser { name: other, user } => {
+            WatchSetting::NodeUser { name: other, user } => {
                 if is_same_bytes(name.as_slice(), other.as_slice()) {
                     return Some(user.as_slice());
                 }
@@ -103,7 +103,7 @@ impl Setting {
         ensures { MatchOption result (own_pass_of self.now ≡ None) (λ pass. own_pass_of self.now ≡ Some pass.now) }
     {
         match self {
-            Setting::OwnPass(pass) => Some(pass.as_slice()),
+            WatchSetting::OwnPass(pass) => Some(pass.as_slice()),
             _ => None,
         }
     }
@@ -113,7 +113,7 @@ impl Setting {
         ensures { MatchOption result (peer_pass_of self.now ≡ None) (λ pass. peer_pass_of self.now ≡ Some pass.now) }
     {
         match self {
-            Setting::PeerPass(pass) => Some(pass.as_slice()),
+            WatchSetting::PeerPass(pass) => Some(pass.as_slice()),
             _ => None,
         }
     }
@@ -123,7 +123,7 @@ impl Setting {
         ensures { MatchOption result (peer_user_of self.now ≡ None) (λ user. peer_user_of self.now ≡ Some user.now) }
     {
         match self {
-            Setting::PeerUser(user) => Some(user.as_slice()),
+            WatchSetting::PeerUser(user) => Some(user.as_slice()),
             _ => None,
         }
     }
@@ -133,7 +133,7 @@ impl Setting {
         ensures { result ≡ reboot_of name.now self.now }
     {
         match self {
-            Setting::Reboot { name: other, ms } => {
+            WatchSetting::Reboot { name: other, ms } => {
                 if is_same_bytes(name.as_slice(), other.as_slice()) {
                     return Some(*ms);
                 }
@@ -148,7 +148,7 @@ impl Setting {
         ensures { result ≡ clients_of self.now }
     {
         match self {
-            Setting::MaxClients(count) => Some(*count),
+            WatchSetting::MaxClients(count) => Some(*count),
             _ => None,
         }
     }
@@ -158,7 +158,7 @@ impl Setting {
         ensures { result ≡ seconds_of self.now }
     {
         match self {
-            Setting::Timeout(seconds) => Some(*seconds),
+            WatchSetting::Timeout(seconds) => Some(*seconds),
             _ => None,
         }
     }
@@ -168,7 +168,7 @@ impl Setting {
         ensures { result ≡ protected_of self.now }
     {
         match self {
-            Setting::ProtectedMode(yes) => Some(*yes),
+            WatchSetting::ProtectedMode(yes) => Some(*yes),
             _ => None,
         }
     }
@@ -178,7 +178,7 @@ impl Setting {
         ensures { MatchOption result (default_of self.now ≡ None) (λ digits. default_of self.now ≡ Some digits.now) }
     {
         match self {
-            Setting::DefaultUser(digits) => Some(digits.as_slice()),
+            WatchSetting::DefaultUser(digits) => Some(digits.as_slice()),
             _ => None,
         }
     }

@@ -6,7 +6,7 @@ ghost use Rattle.ballot_law.specs.Words.{lower};
 ghost use Rattle.sentinel_conf.specs.Watch.Users.{is_plain, has_rule, has_all_rights, password_rule, user_with, default_user, user_line, hash_of};
 
 use crate::watch::faults::WatchKind;
-use crate::watch::settings::{Setting, WatchLine};
+use crate::watch::settings::{WatchLine, WatchSetting};
 use ballot_law::{NoMemory, Text, is_same_bytes};
 use sha2::{Digest, Sha256};
 use std::alloc::Global;
@@ -82,7 +82,7 @@ fn user_with(alloc: Global, rule: &Text) -> Result<WatchLine, NoMemory>
     match rule.as_slice().split_first() {
         Some((first, digits)) if *first == b'#' && !digits.is_empty() => {
             let digits = Text::from_slice(alloc, digits)?;
-            Ok(WatchLine::Says(Setting::DefaultUser(digits)))
+            Ok(WatchLine::Says(WatchSetting::DefaultUser(digits)))
         }
         _ => Ok(WatchLine::Faulty(WatchKind::AclUser)),
     }

@@ -13,7 +13,9 @@ use crate::watch::announcing::lacks_announce_ip;
 use crate::watch::binds::{Bind, EVERYWHERE};
 use crate::watch::directives::line_of;
 use crate::watch::faults::{WatchFault, WatchKind};
-use crate::watch::settings::{CLIENTS_MAX, IDLE_SECONDS, IDLE_SECONDS_MAX, Setting, WatchLine};
+use crate::watch::settings::{
+    CLIENTS_MAX, IDLE_SECONDS, IDLE_SECONDS_MAX, WatchLine, WatchSetting,
+};
 use crate::watch::users::hash_of;
 use ballot_law::{Name, NoMemory, is_same_bytes};
 use std::alloc::Global;
@@ -24,14 +26,14 @@ use tokens::split_line;
 /// Contracts see the settings of all lines, in order.
 #[derive(Drop)]
 pub struct WatchConf {
-    settings: Vec<Setting>,
+    settings: Vec<WatchSetting>,
 }
 
 impl Model for WatchConf {
     ghost use Rattle.std.specs.Prelude.{List};
-    ghost use Rattle.sentinel_conf.specs.declared.watch.settings.Setting.{Setting};
+    ghost use Rattle.sentinel_conf.specs.declared.watch.settings.WatchSetting.{WatchSetting};
 
-    ghost Value = { List Setting };
+    ghost Value = { List WatchSetting };
 
     ghost view = { λ conf. conf.settings.items };
 }
@@ -205,7 +207,7 @@ impl WatchConf {
 }
 
 /// Adds a setting.
-fn add(list: &mut Vec<Setting>, setting: Setting) -> Result<(), NoMemory>
+fn add(list: &mut Vec<WatchSetting>, setting: WatchSetting) -> Result<(), NoMemory>
     ensures { OnOk result (list.new.items ≡ list.old.items ++ setting ∷ []) }
 {
     list.push(setting)?;
@@ -213,7 +215,7 @@ fn add(list: &mut Vec<Setting>, setting: Setting) -> Result<(), NoMemory>
 }
 
 /// The settings of all lines in order, or the fault of the first faulty one.
-fn settings_of(alloc: Global, bytes: &[u8]) -> Result<Vec<Setting>, WatchFault>
+fn settings_of(alloc: Global, bytes: &[u8]) -> Result<Vec<WatchSetting>, WatchFault>
     ensures { MatchResult result (λ list. settings_from 1 (lines bytes.now) ≡ Ok list.items)
         (λ fault. (fault ≡ no_memory) ⊎ (settings_from 1 (lines bytes.now) ≡ Err fault)) }
 {
@@ -238,7 +240,7 @@ fn says_other_hash(alloc: Global, hash: &[u8], text: &[u8]) -> Result<bool, NoMe
     ensures { IfOk result (λ other. other ≡ says_other_hash hash.now text.now) }
 {
     match line_of(alloc, text)? {
-        WatchLine::Says(Setting::DefaultUser(digits)) => Ok(!is_same_bytes(
+        WatchLine::Says(WatchSetting::DefaultUser(digits)) => Ok(!is_same_bytes(
             digits.as_slice(),
             hash,
         )),

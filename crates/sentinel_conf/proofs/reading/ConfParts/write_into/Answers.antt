@@ -1,7 +1,7 @@
 use Rattle.ballot_law.specs.declared.cards.Kept.{Kept}
 use Rattle.sentinel_conf.specs.Rewritten.{rewritten}
 use Rattle.sentinel_conf.proofs.RoomLemmas.{text_from_empty}
-use Rattle.sentinel_conf.proofs.reading.Parts.write_into.Goals as goal
+use Rattle.sentinel_conf.proofs.reading.ConfParts.write_into.Goals as goal
 
 pub returns-clause-text : goal.returns-clause-text
 returns-clause-text c =

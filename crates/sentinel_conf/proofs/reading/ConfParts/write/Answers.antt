@@ -6,7 +6,7 @@ use Rattle.sentinel_conf.specs.Rewritten.{text_of, state_lines, rewritten}
 use Rattle.sentinel_conf.specs.Room.{bounded}
 use Rattle.sentinel_conf.proofs.FixedLemmas.{fixed_file}
 use Rattle.sentinel_conf.proofs.RoomLemmas.{kept_and_states}
-use Rattle.sentinel_conf.proofs.reading.Parts.write.Goals as goal
+use Rattle.sentinel_conf.proofs.reading.ConfParts.write.Goals as goal
 
 pub returns : goal.returns
 returns c =
