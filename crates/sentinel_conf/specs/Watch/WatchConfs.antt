@@ -57,22 +57,29 @@ abbrev pub sent_user : List WatchSetting → List ℕ
 sent_user settings = user_beside (last peer_pass_of [] settings) (last peer_user_of [] settings)
 
 -- a line has another hash of the default user's password than this
-abbrev pub is_other_hash : (hash : List ℕ) → WatchLine → Bool
-is_other_hash hash (Says (DefaultUser digits)) = not (same_bytes digits hash)
+abbrev pub is_other_hash : (hash : List ℕ) → WatchSetting → Bool
+is_other_hash hash (DefaultUser digits) = not (same_bytes digits hash)
 is_other_hash hash _ = false
 
-abbrev pub says_other_hash : (hash text : List ℕ) → Bool
-says_other_hash hash text = is_other_hash hash (watch_line text)
+-- the number of a line, where it sets something
+abbrev pub number_at : ℕ → WatchLine → List ℕ
+number_at number (Says setting) = number ∷ []
+number_at number _ = []
 
--- the number of the first of these lines that has another hash than this; the first line has this number
-abbrev pub other_hash_line : (hash : List ℕ) → ℕ → List (List ℕ) → Option ℕ
-other_hash_line hash number [] = None
-other_hash_line hash number (text ∷ texts) =
-    elim (says_other_hash hash text) as (λ _. Option ℕ) [ true ↦ Some number | false ↦ other_hash_line hash (number + 1) texts ]
+-- the numbers of the lines that set something, beside what they set; the first line has this number
+abbrev pub numbers_from : ℕ → List (List ℕ) → List ℕ
+numbers_from number [] = []
+numbers_from number (text ∷ texts) = number_at number (watch_line text) ++ numbers_from (number + 1) texts
+
+-- the number of the first line that has another hash than this
+abbrev pub other_hash_line : (hash : List ℕ) → List WatchSetting → (numbers : List ℕ) → Option ℕ
+other_hash_line hash (setting ∷ settings) (number ∷ numbers) =
+    elim (is_other_hash hash setting) as (λ _. Option ℕ) [ true ↦ Some number | false ↦ other_hash_line hash settings numbers ]
+other_hash_line hash _ _ = None
 
 -- the hash is to be that of the own password
-abbrev pub other_password_line : List WatchSetting → List ℕ → Option ℕ
-other_password_line settings bytes = other_hash_line (hash_of (last own_pass_of [] settings)) 1 (lines bytes)
+abbrev pub other_password_line : List WatchSetting → (numbers : List ℕ) → Option ℕ
+other_password_line settings numbers = other_hash_line (hash_of (last own_pass_of [] settings)) settings numbers
 
 -- an address is on the loopback of its machine
 abbrev pub is_loopback : Addr → Bool
@@ -104,7 +111,7 @@ with_password (Some number) lacking settings = Err (fault_at number OtherPasswor
 with_password None lacking settings = reached lacking settings
 
 abbrev pub judged : (lacking : Bool) → List ℕ → Result (List WatchSetting) WatchFault → Result (List WatchSetting) WatchFault
-judged lacking bytes (Ok settings) = with_password (other_password_line settings bytes) lacking settings
+judged lacking bytes (Ok settings) = with_password (other_password_line settings (numbers_from 1 (lines bytes))) lacking settings
 judged lacking bytes (Err fault) = Err fault
 
 -- the settings of a file that says this, or its first fault

@@ -5,7 +5,7 @@ ghost use Rattle.ballot_law.specs.Cuts.{lines};
 ghost use Rattle.sentinel_conf.specs.Meaning.{last};
 ghost use Rattle.sentinel_conf.specs.Watch.WatchLines.{binds_of, node_pass_of, node_user_of, own_pass_of, peer_pass_of, peer_user_of, reboot_of, clients_of, seconds_of, protected_of};
 ghost use Rattle.sentinel_conf.specs.Watch.Binds.{everywhere};
-ghost use Rattle.sentinel_conf.specs.Watch.WatchConfs.{no_memory, sent_pass, sent_user, says_other_hash, other_hash_line, other_password_line, settings_from, watch_settings};
+ghost use Rattle.sentinel_conf.specs.Watch.WatchConfs.{no_memory, sent_pass, sent_user, is_other_hash, numbers_from, other_hash_line, other_password_line, settings_from, watch_settings};
 ghost use Rattle.sentinel_conf.specs.declared.watch.settings.TheConstants.{CLIENTS_MAX, IDLE_SECONDS, IDLE_SECONDS_MAX};
 
 use crate::conf::Conf;
@@ -206,76 +206,91 @@ impl WatchConf {
     }
 }
 
-/// Adds a setting.
-fn add(list: &mut Vec<WatchSetting>, setting: WatchSetting) -> Result<(), NoMemory>
-    ensures { OnOk result (list.new.items ≡ list.old.items ++ setting ∷ []) }
-{
-    list.push(setting)?;
-    Ok(())
+/// What the lines of a file set, in order, and the number of the line of each.
+#[derive(Drop)]
+struct Said {
+    settings: Vec<WatchSetting>,
+    numbers: Vec<u64>,
 }
 
-/// The settings of all lines in order, or the fault of the first faulty one.
-fn settings_of(alloc: Global, bytes: &[u8]) -> Result<Vec<WatchSetting>, WatchFault>
-    ensures { MatchResult result (λ list. settings_from 1 (lines bytes.now) ≡ Ok list.items)
+impl Said {
+    /// Adds what the line with this number sets.
+    fn add(&mut self, number: u64, setting: WatchSetting) -> Result<(), NoMemory>
+        ensures settings { OnOk result (self.new.settings.items ≡ self.old.settings.items ++ setting ∷ []) }
+        ensures numbers { OnOk result (self.new.numbers.items ≡ self.old.numbers.items ++ number ∷ []) }
+    {
+        self.settings.push(setting)?;
+        self.numbers.push(number)?;
+        Ok(())
+    }
+}
+
+/// What all lines set, or the fault of the first faulty one.
+fn said_in(alloc: Global, bytes: &[u8]) -> Result<Said, WatchFault>
+    ensures settings { MatchResult result (λ said. settings_from 1 (lines bytes.now) ≡ Ok said.settings.items)
         (λ fault. (fault ≡ no_memory) ⊎ (settings_from 1 (lines bytes.now) ≡ Err fault)) }
+    ensures numbers { IfOk result (λ said. said.numbers.items ≡ numbers_from 1 (lines bytes.now)) }
 {
-    let mut list = Vec::new(alloc);
+    let mut said = Said {
+        settings: Vec::new(alloc),
+        numbers: Vec::new(alloc),
+    };
     let mut number: u64 = 1;
     let mut rest = bytes;
     while !rest.is_empty() {
         let (text, more) = split_line(rest);
         match line_of(alloc, text)? {
             WatchLine::Other => {}
-            WatchLine::Says(setting) => add(&mut list, setting)?,
+            WatchLine::Says(setting) => said.add(number, setting)?,
             WatchLine::Faulty(kind) => return Err(WatchFault { line: number, kind }),
         }
         number += 1;
         rest = more;
     }
-    Ok(list)
+    Ok(said)
 }
 
-/// Whether the line has a hash of the default user's password, and another one than this.
-fn says_other_hash(alloc: Global, hash: &[u8], text: &[u8]) -> Result<bool, NoMemory>
-    ensures { IfOk result (λ other. other ≡ says_other_hash hash.now text.now) }
+/// Whether it is a hash of the default user's password, and another one than this.
+fn is_other_hash(hash: &[u8], setting: &WatchSetting) -> bool
+    ensures { result ≡ is_other_hash hash.now setting.now }
 {
-    match line_of(alloc, text)? {
-        WatchLine::Says(WatchSetting::DefaultUser(digits)) => Ok(!is_same_bytes(
-            digits.as_slice(),
-            hash,
-        )),
-        _ => Ok(false),
+    match setting {
+        WatchSetting::DefaultUser(digits) => !is_same_bytes(digits.as_slice(), hash),
+        _ => false,
     }
 }
 
-/// The number of the first line that has another hash of the default user's password than this.
-fn other_hash_line(alloc: Global, hash: &[u8], bytes: &[u8]) -> Result<Option<u64>, NoMemory>
-    ensures { IfOk result (λ found. found ≡ other_hash_line hash.now 1 (lines bytes.now)) }
+/// The number of the first line that has another hash of the default user's password than this. The lines of the
+/// settings have these numbers.
+fn other_hash_line(hash: &[u8], settings: &[WatchSetting], numbers: &[u64]) -> Option<u64>
+    ensures { result ≡ other_hash_line hash.now settings.now numbers.now }
 {
-    let mut number: u64 = 1;
-    let mut rest = bytes;
-    while !rest.is_empty() {
-        let (text, more) = split_line(rest);
-        if says_other_hash(alloc, hash, text)? {
-            return Ok(Some(number));
+    let mut left = numbers;
+    let mut rest = settings;
+    while let [setting, more @ ..] = rest {
+        let Some((number, behind)) = left.split_first() else {
+            return None;
+        };
+        if is_other_hash(hash, setting) {
+            return Some(*number);
         }
-        number += 1;
+        left = behind;
         rest = more;
     }
-    Ok(None)
+    None
 }
 
 /// The number of the first line that has the hash of another password than that of the last line `requirepass`; an
-/// empty one is none.
+/// empty one is none. The lines of the settings have these numbers.
 fn other_password_line(
     alloc: Global,
     conf: &WatchConf,
-    bytes: &[u8],
+    numbers: &[u64],
 ) -> Result<Option<u64>, NoMemory>
-    ensures { IfOk result (λ found. found ≡ other_password_line conf.now bytes.now) }
+    ensures { IfOk result (λ found. found ≡ other_password_line conf.now numbers.now) }
 {
     let hash = hash_of(alloc, conf.own_pass())?;
-    other_hash_line(alloc, hash.as_bytes(), bytes)
+    Ok(other_hash_line(hash.as_bytes(), &conf.settings, numbers))
 }
 
 /// What the file with these bytes says to `watch`, where `conf` is what it says else; or its first fault. Faults are
@@ -285,12 +300,12 @@ pub fn read_watch(alloc: Global, conf: &Conf, bytes: &[u8]) -> Result<WatchConf,
     ensures { MatchResult result (λ read. watch_settings conf.now bytes.now ≡ Ok read)
         (λ fault. (fault ≡ no_memory) ⊎ (watch_settings conf.now bytes.now ≡ Err fault)) }
 {
-    let settings = match settings_of(alloc, bytes) {
-        Ok(settings) => settings,
+    let Said { settings, numbers } = match said_in(alloc, bytes) {
+        Ok(said) => said,
         Err(fault) => return Err(fault),
     };
     let read = WatchConf { settings };
-    if let Some(line) = other_password_line(alloc, &read, bytes)? {
+    if let Some(line) = other_password_line(alloc, &read, &numbers)? {
         return Err(WatchFault {
             line,
             kind: WatchKind::OtherPassword,
