@@ -301,6 +301,14 @@ pub(crate) fn asks_sentinel(words: &[Text]) -> bool
     is_told(b"sentinel", words)
 }
 
+/// The answer is this text.
+fn say_bulk(out: &mut OutText, text: &[u8]) -> Result<(), NoMemory>
+    ensures { OnOk result (out.new ≡ spelling (frames.bulk text.now)) }
+{
+    out.clear();
+    push_bulk(out, text)
+}
+
 /// The answer is the sections of the port that the words ask for.
 fn say_port(
     alloc: Global,
@@ -312,8 +320,7 @@ fn say_port(
 {
     let mut text = OutText::new(alloc);
     add_port_sections(&mut text, words, figures)?;
-    out.clear();
-    push_bulk(out, text.as_slice())
+    say_bulk(out, text.as_slice())
 }
 
 /// The answer to INFO with these words, where none asks for the section of the Sentinel; else none.
