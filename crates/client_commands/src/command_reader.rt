@@ -214,8 +214,8 @@ impl CommandReader {
         courtesy_of(self.alloc, &mut self.asker, value, roster, &mut self.text)
     }
 
-    /// Has the text be the answer to this value, which is INFO, where the Sentinel answers with `section`, a bulk string,
-    /// when it is asked for its section. `NoMemory`: memory was refused; the connection is to be closed.
+    /// Has the text be the answer to this value, which is INFO, where the Sentinel answers with `section`, a bulk
+    /// string, when it is asked for its section. `NoMemory`: memory was refused; the connection is to be closed.
     pub fn inform(&mut self, value: &Value, section: &Value) -> Result<(), NoMemory>
         ensures text { OnOk result (self.new.text ≡ spelling (info self.old.asker.port.figures (view value.now) (view section.now))) }
         ensures asker { self.new.asker ≡ self.old.asker }

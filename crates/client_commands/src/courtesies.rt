@@ -334,12 +334,12 @@ fn reply_to(
     answer_words(alloc, roster, asker, miscounted, words.as_slice(), out)
 }
 
-/// What becomes of a value of a connection, by the table in docs/CLIENTS.md, where the Sentinel has this roster: `out` is
-/// the answer where one is told, and empty elsewhere. The connection has the name that the value gives it; it is known whether its client gave the
-/// password, and which clients of its port are to be closed; all else that is known of it stays. One value has at most
-/// one answer, and one that the Sentinel's rules answer, be it by a command or by the fault of a word, is left to them,
-/// once the client gave the password that is wanted. An array without items has no answer: it is `Said`, and `out` is
-/// empty.
+/// What becomes of a value of a connection, by the table in docs/CLIENTS.md, where the Sentinel has this roster: `out`
+/// is the answer where one is told, and empty elsewhere. The connection has the name that the value gives it; it is
+/// known whether its client gave the password, and which clients of its port are to be closed; all else that is known
+/// of it stays. One value has at most one answer, and one that the Sentinel's rules answer, be it by a command or by
+/// the fault of a word, is left to them, once the client gave the password that is wanted. An array without items has
+/// no answer: it is `Said`, and `out` is empty.
 ///
 /// NoMemory: memory was refused; what `out` then holds, what name the connection has and whether its client is admitted
 /// isn't told.

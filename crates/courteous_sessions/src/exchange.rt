@@ -278,8 +278,8 @@ impl Exchange {
         }
     }
 
-    /// Has the attendant's text be the answer to INFO, by the Sentinel's section, which begins at this place of what isn't
-    /// sent yet.
+    /// Has the attendant's text be the answer to INFO, by the Sentinel's section, which begins at this place of what
+    /// isn't sent yet.
     fn inform(&mut self, value: &Value, start: usize) -> Result<(), NoMemory>
         requires { start ≤ length self.old.responder.unsent.items }
         ensures text { OnOk result ((section : Frame) × BeginsWith (drop start self.old.responder.unsent.items) section

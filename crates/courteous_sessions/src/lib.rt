@@ -2,8 +2,8 @@
 //! session answers them, by Pub/Sub of `pubsub`, or by the table of `client_commands` where the Sentinel's rules know
 //! no answer.
 //!
-//! Both sessions stand over a `Responder` of `port_sessions`, which has all that isn't sent yet and knows since when notes
-//! are due: `ClientSession` is one or the other. What a client is answered stands in `specs/Visits`; what it is
+//! Both sessions stand over a `Responder` of `port_sessions`, which has all that isn't sent yet and knows since when
+//! notes are due: `ClientSession` is one or the other. What a client is answered stands in `specs/Visits`; what it is
 //! told besides in `specs/Events`, and what each call of a `ClientSession` does in `specs/Clients`. All of that is in
 //! RESP2; how it is told to a client that asked for RESP3 stands in `specs/Retelling`.
 #![tactic(auto)]

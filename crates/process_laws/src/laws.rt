@@ -82,8 +82,8 @@ pub fn law_pieces_are_carried()
     ensures { PiecesAreCarried }
 {}
 
-/// A piece in which a value waits, and the next one, which begins with that, are one piece of both, however the next one
-/// ends: by a fault, by another value that waits, or answered whole.
+/// A piece in which a value waits, and the next one, which begins with that, are one piece of both, however the next
+/// one ends: by a fault, by another value that waits, or answered whole.
 pub fn law_put_off_pieces_join()
     ensures { PutOffPiecesJoin }
 {}
@@ -95,8 +95,8 @@ pub fn law_files_are_left()
     ensures { FilesAreLeft }
 {}
 
-/// What the contracts of a running Sentinel are about is what `law_connected_processes_are_safe` asks: each process took
-/// what is free, or what bytes told it that came on one of its connections, for what was asked there. Left are the
+/// What the contracts of a running Sentinel are about is what `law_connected_processes_are_safe` asks: each process
+/// took what is free, or what bytes told it that came on one of its connections, for what was asked there. Left are the
 /// network, which carried those bytes from the Sentinel that was meant, or told a hello that a Sentinel published
 /// before, and the one order of all.
 pub fn law_watched_processes_are_connected()

@@ -81,7 +81,8 @@ impl Nearness {
 
 /// Who takes down what a thread has to know of a Sentinel at the end of a turn: what its rules noted that nobody took
 /// yet, and of which masters a campaign comes near. `is_switching` is whether a switch is under way that a client asked
-/// for, `current` its current epoch after the last turn, and `settling` how far that has come, where it is looked after.
+/// for, `current` its current epoch after the last turn, and `settling` how far that has come, where it is looked
+/// after.
 #[derive(Drop)]
 pub(crate) struct Sight {
     notices: Vec<Notice>,
