@@ -83,8 +83,8 @@ pub fn law_pieces_are_carried()
     ensures { PiecesAreCarried }
 {}
 
-/// A piece in which a value waits, and the next one, which begins with that, are one piece of both, however the next one
-/// ends: by a fault, by another value that waits, or answered whole.
+/// A piece in which a value waits, and the next one, which begins with that, are one piece of both, however the next
+/// one ends: by a fault, by another value that waits, or answered whole.
 pub fn law_put_off_pieces_join()
     ensures { PutOffPiecesJoin }
 {}
@@ -96,8 +96,8 @@ pub fn law_files_are_left()
     ensures { FilesAreLeft }
 {}
 
-/// What the contracts of a running Sentinel are about is what `law_connected_processes_are_safe` asks: each process took
-/// what is free, or what bytes told it that came on one of its connections, for what was asked there. Left are the
+/// What the contracts of a running Sentinel are about is what `law_connected_processes_are_safe` asks: each process
+/// took what is free, or what bytes told it that came on one of its connections, for what was asked there. Left are the
 /// network, which carried those bytes from the Sentinel that was meant, or told a hello that a Sentinel published
 /// before, and the one order of all.
 pub fn law_watched_processes_are_connected()
@@ -106,8 +106,8 @@ pub fn law_watched_processes_are_connected()
 {}
 
 /// Whatever a port's session takes, at whichever fault it ends, its thread's calls are commands, and so free: what the
-/// calls under a seat's numbers took stays what `law_watched_processes_are_connected` asks. So it does at each turn that
-/// takes what is free or told, and where a seat has all numbers, its whole history took that.
+/// calls under a seat's numbers took stays what `law_watched_processes_are_connected` asks. So it does at each turn
+/// that takes what is free or told, and where a seat has all numbers, its whole history took that.
 pub fn law_port_calls_are_free()
     ensures { CallsHearSo }
 {}
