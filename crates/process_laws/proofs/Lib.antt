@@ -26,3 +26,4 @@ pub mod CarriedPieces
 pub mod FilesLeft
 pub mod TwoConnected
 pub mod Watched
+pub mod PortCalls

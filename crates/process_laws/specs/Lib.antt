@@ -16,3 +16,4 @@ pub mod CarriedPieces
 pub mod FilesLeft
 pub mod TwoConnected
 pub mod Watched
+pub mod PortCalls

@@ -7,6 +7,7 @@ ghost use Rattle.process_laws.specs.FilesLeft.{FilesAreLeft};
 ghost use Rattle.process_laws.specs.GroupStarts.{OneGroupIsAStart};
 ghost use Rattle.process_laws.specs.LateAnswers.{LateAnswersHappen};
 ghost use Rattle.process_laws.specs.OwnActions.{OwnActionsAreActions};
+ghost use Rattle.process_laws.specs.PortCalls.{CallsHearSo};
 ghost use Rattle.process_laws.specs.PutOff.{PutOffPiecesJoin};
 ghost use Rattle.process_laws.specs.TwoConnected.{ConnectedProcessesHappen};
 ghost use Rattle.process_laws.specs.TwoProcesses.{ActionsHappen};
@@ -102,4 +103,11 @@ pub fn law_files_are_left()
 pub fn law_watched_processes_are_connected()
     ensures connected { WatchedAreConnected }
     ensures safe { WatchedAreSafe }
+{}
+
+/// Whatever a port's session takes, at whichever fault it ends, its thread's calls are commands, and so free: what the
+/// calls under a seat's numbers took stays what `law_watched_processes_are_connected` asks. So it does at each turn
+/// that takes what is free or told, and where a seat has all numbers, its whole history took that.
+pub fn law_port_calls_are_free()
+    ensures { CallsHearSo }
 {}

@@ -11,8 +11,9 @@ mod shared_laws;
 pub use laws::{
     law_actions_happen, law_connected_processes_are_safe, law_connected_processes_happen,
     law_files_are_left, law_late_answers_happen, law_one_group_is_a_start,
-    law_own_actions_are_actions, law_pieces_are_carried, law_processes_are_a_run,
-    law_processes_are_safe, law_put_off_pieces_join, law_watched_processes_are_connected,
+    law_own_actions_are_actions, law_pieces_are_carried, law_port_calls_are_free,
+    law_processes_are_a_run, law_processes_are_safe, law_put_off_pieces_join,
+    law_watched_processes_are_connected,
 };
 pub use link_laws::{
     law_answers_are_about_it, law_answers_are_delivered, law_delivered_answers_are_heard,
