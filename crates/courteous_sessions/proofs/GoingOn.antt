@@ -13,7 +13,7 @@ use Rattle.sentinel_core.specs.Serving.Serving.{last_line}
 use Rattle.port_sessions.specs.declared.limit.Reach.{Reach}
 use Rattle.port_sessions.specs.declared.limit.Reach.TheVariants.{Done, Waits}
 use Rattle.port_sessions.specs.Stores.{may_store, one_if}
-use Rattle.port_sessions.specs.declared.hearing.Hearing.{Hearing}
+use Rattle.port_sessions.specs.declared.hearing.NotesHeard.{NotesHeard}
 use Rattle.port_sessions.specs.Talks.{party}
 use Rattle.ballot_law.specs.declared.commands.Command.{Command}
 use Rattle.resp2.specs.Asked.{IsCommon}
@@ -99,12 +99,12 @@ common_is_next command more held mark after left stands taken waits = (
   },
 )
 
-pub guest_same : (before mid : Attendance) (l same_l : Listening) (hearing same : Hearing) (v : View) → mid.asker ≡ before.asker → same_l ≡ l → same ≡ hearing
+pub guest_same : (before mid : Attendance) (l same_l : Listening) (hearing same : NotesHeard) (v : View) → mid.asker ≡ before.asker → same_l ≡ l → same ≡ hearing
     → guest_of before l hearing v ≡ guest_of mid same_l same v
 guest_same before mid l same_l hearing same v a b c =
     ap (λ (x : ClientInfo). guest (party v hearing.listens) l hearing.told x) (sym a)
     ∙ ap (λ (x : Listening). guest (party v hearing.listens) x hearing.told mid.asker) (sym b)
-    ∙ ap (λ (t : Hearing). guest (party v t.listens) same_l t.told mid.asker) (sym c)
+    ∙ ap (λ (t : NotesHeard). guest (party v t.listens) same_l t.told mid.asker) (sym c)
 
 -- ---- how many values may store
 
@@ -140,7 +140,7 @@ module _ (start : World) (now : ℕ) (most : ℕ) (stream : List ℕ) (g : Guest
       }
 
   -- it was a command that comes nearly always
-  pub common_within : (command : Command) (first bytes : List ℕ) (before after : Attendance) (l later_l : Listening) (unsent put : List ℕ) (hearing later : Hearing) (v w : View)
+  pub common_within : (command : Command) (first bytes : List ℕ) (before after : Attendance) (l later_l : Listening) (unsent put : List ℕ) (hearing later : NotesHeard) (v w : View)
       (more fewer : ℕ) (mark : Held) → unsent ≡ first ++ bytes → IsWithin start now most stream g more before.held bytes (guest_of before l hearing v) → IsReady before l hearing
       → IsCommonAhead before.asker l more before.held command fewer mark after.held → after.asker ≡ before.asker → later_l ≡ l → later.told ≡ hearing.told
       → (text : List ℕ) × (put ≡ unsent ++ text)
@@ -160,7 +160,7 @@ module _ (start : World) (now : ℕ) (most : ℕ) (stream : List ℕ) (g : Guest
       )
 
   -- it was any value
-  pub value_within : (value : Value) (first bytes : List ℕ) (before between after : Attendance) (l later_l : Listening) (unsent put : List ℕ) (hearing later : Hearing) (v w : View)
+  pub value_within : (value : Value) (first bytes : List ℕ) (before between after : Attendance) (l later_l : Listening) (unsent put : List ℕ) (hearing later : NotesHeard) (v w : View)
       (more fewer : ℕ) (mark : Held) → unsent ≡ first ++ bytes → IsWithin start now most stream g more before.held bytes (guest_of before l hearing v) → IsReady before l hearing
       → IsValueAhead more before.held value fewer mark between.held → between.asker ≡ before.asker → after.held ≡ between.held
       → (text : List ℕ) × (put ≡ unsent ++ text) × IsReady after later_l later

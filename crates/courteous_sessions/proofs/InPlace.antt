@@ -9,7 +9,7 @@ use Rattle.client_commands.specs.Attendants.{Attendance, TakesCommon}
 use Rattle.client_commands.specs.Courtesies.{ClientInfo}
 use Rattle.client_commands.specs.Lines.{value_at}
 use Rattle.client_commands.proofs.LineStreams.{as_frame}
-use Rattle.port_sessions.specs.declared.hearing.Hearing.{Hearing}
+use Rattle.port_sessions.specs.declared.hearing.NotesHeard.{NotesHeard}
 use Rattle.port_sessions.specs.Stores.{may_store, one_if}
 use Rattle.port_sessions.specs.Talks.{party, Responds}
 use Rattle.resp2.specs.Asked.{IsCommon}
@@ -40,7 +40,7 @@ no_rest (x ∷ xs) h = absurd (let no : ⊥ = grind (arith, nat_tests, h) in no)
 
 module _ (start : World) (now : ℕ) (most : ℕ) (stream : List ℕ) (g : Guest) where
   -- the first command of what comes still was answered
-  pub front_answered : (command : Command) (first bytes : List ℕ) (before after : Attendance) (l later_l : Listening) (unsent put : List ℕ) (hearing later : Hearing) (v w : View)
+  pub front_answered : (command : Command) (first bytes : List ℕ) (before after : Attendance) (l later_l : Listening) (unsent put : List ℕ) (hearing later : NotesHeard) (v w : View)
       (rest more : List ℕ)
       → unsent ≡ first ++ bytes → IsWithin start now most stream g most (reading rest) bytes (guest_of before l hearing v) → IsReady before l hearing → IsDirect before l
       → TakesCommon (reading rest) (reading more) command → limits.IsWithin command → IsCommon command → may_store (Ok command) ≡ false → length more < length rest
@@ -67,7 +67,7 @@ module _ (start : World) (now : ℕ) (most : ℕ) (stream : List ℕ) (g : Guest
       (responds_in_two start now before.asker.protocol (party v hearing.listens) (heard_as before.asker.current (Ok command)) (party w later.listens) unsent put direct.speaks got)
 
   -- it has no answer
-  pub front_lost : (command : Command) (first bytes : List ℕ) (before : Attendance) (l : Listening) (unsent put : List ℕ) (hearing : Hearing) (v w : View) (rest more : List ℕ)
+  pub front_lost : (command : Command) (first bytes : List ℕ) (before : Attendance) (l : Listening) (unsent put : List ℕ) (hearing : NotesHeard) (v w : View) (rest more : List ℕ)
       (fault : ServeFault)
       → unsent ≡ first ++ bytes → IsWithin start now most stream g most (reading rest) bytes (guest_of before l hearing v) → TakesCommon (reading rest) (reading more) command
       → ((fault ≡ Halted) ⊎ (fault ≡ NoMemory)) × FailsAt start now v (heard_as before.asker.current (Ok command)) fault w → put ≡ unsent
@@ -124,12 +124,12 @@ fed_to (Ok x) (reading bytes) after piece is ok feeds = feeds
 fed_to (Err f) (reading bytes) after piece is ok feeds = absurd (true≢false ok)
 fed_to fed (ended f) after piece is ok feeds = absurd (let no : ⊥ = cc in no)
 
-pub fed_alike : (P : ℕ → Held → Guest → Type 0) (most limit : ℕ) (before after : Attendance) (l later_l : Listening) (hearing later : Hearing) (piece : List ℕ) (v : View)
+pub fed_alike : (P : ℕ → Held → Guest → Type 0) (most limit : ℕ) (before after : Attendance) (l later_l : Listening) (hearing later : NotesHeard) (piece : List ℕ) (v : View)
     → limit ≡ most → after.held ≡ reading (bytes_in before.held ++ piece) → after.asker ≡ before.asker → later_l ≡ l → later ≡ hearing
     → P most (reading (bytes_in before.held ++ piece)) (guest_of before l hearing v) → P limit after.held (guest_of after later_l later v)
 fed_alike P most limit before after l later_l hearing later piece v counts held asker same_l same h =
     subst (λ (n : ℕ). P n after.held (guest_of after later_l later v)) (sym counts)
-    (subst (λ (x : Hearing). P most after.held (guest_of after later_l x v)) (sym same)
+    (subst (λ (x : NotesHeard). P most after.held (guest_of after later_l x v)) (sym same)
     (subst (λ (x : Listening). P most after.held (guest_of after x hearing v)) (sym same_l)
     (subst (λ (x : ClientInfo). P most after.held (guest (party v hearing.listens) l hearing.told x)) (sym asker)
     (subst (λ (x : Held). P most x (guest_of before l hearing v)) (sym held) h))))

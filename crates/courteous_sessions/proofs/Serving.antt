@@ -19,7 +19,7 @@ use Rattle.client_commands.proofs.LineStreams.{reads_next}
 use Rattle.sentinel_core.specs.declared.serving.fault.ServeFault.{ServeFault}
 use Rattle.sentinel_core.specs.declared.serving.fault.ServeFault.TheVariants.{Halted as ServeHalted, NoMemory as OutOfMemory}
 use Rattle.sentinel_core.specs.Serving.Serving.{last_line}
-use Rattle.port_sessions.specs.declared.hearing.Hearing.{Hearing}
+use Rattle.port_sessions.specs.declared.hearing.NotesHeard.{NotesHeard}
 use Rattle.port_sessions.specs.Talks.{Party, party, Responds, RespondsAt}
 use Rattle.resp2.specs.declared.command.CommandFault.{CommandFault}
 use Rattle.resp2.specs.Commands.{redis_command_of}
@@ -43,7 +43,7 @@ pub was_read : {V : Type 0} (view : V → Frame) (held : Held) (value : V) (afte
 was_read view (reading bytes) value after is h = h
 was_read view (ended fault) value after is h = absurd (let no : ⊥ = cc in no)
 
-asker_is : (attended : Attendance) (l : Listening) (hearing : Hearing) (v : View) → attended.asker.listens ≡ is_confined attended.asker.protocol l
+asker_is : (attended : Attendance) (l : Listening) (hearing : NotesHeard) (v : View) → attended.asker.listens ≡ is_confined attended.asker.protocol l
     → attended.asker ≡ (guest_of attended l hearing v).asker
 asker_is attended l hearing v h = ap (λ (b : Bool). let a : ClientInfo = record attended.asker { listens = b } in a) h
 
@@ -144,7 +144,7 @@ module _ (start : World) (now : ℕ) where
   same_words asker value silent p bytes q h = h
 
   -- a value was attended to, and then answered by what became of it
-  pub served_by_others : (before after : Attendance) (l : Listening) (hearing later : Hearing) (v w : View) (value : Frame) (more : List ℕ) → IsReady before l hearing
+  pub served_by_others : (before after : Attendance) (l : Listening) (hearing later : NotesHeard) (v w : View) (value : Frame) (more : List ℕ) → IsReady before l hearing
       → channel_turn before.asker l value ≡ other → confined l after.asker ≡ confined l (asker_after before.asker value) → later.told ≡ hearing.told
       → Answers start now before.asker (courtesy (roster_of start.plan) before.asker value) (party v hearing.listens) value more (party w later.listens)
       → Serves start now (guest_of before l hearing v) value more (guest_of after l later w)
@@ -161,7 +161,7 @@ module _ (start : World) (now : ℕ) where
       subst (λ (x : ClientInfo). ServesBy start now (channel_turn x l value) (at x) value more (guest_of after l later w)) (asker_is before l hearing v ready.listens) here
 
   -- it is ready for the next one then
-  pub ready_by_others : (before after : Attendance) (l : Listening) (hearing later : Hearing) (v w : View) (value : Frame) (more : List ℕ) → IsReady before l hearing
+  pub ready_by_others : (before after : Attendance) (l : Listening) (hearing later : NotesHeard) (v w : View) (value : Frame) (more : List ℕ) → IsReady before l hearing
       → before.asker.protocol ≡ Two → channel_turn before.asker l value ≡ other → after.asker.listens ≡ is_confined after.asker.protocol l → after.held ≡ before.held
       → Answers start now before.asker (courtesy (roster_of start.plan) before.asker value) (party v hearing.listens) value more (party w later.listens) → IsReady after l later
   ready_by_others before after l hearing later v w value more ready speaks none is held a =
@@ -172,7 +172,7 @@ module _ (start : World) (now : ℕ) where
       }
 
   -- what a connection's own words change of it makes no difference to how an answer is told
-  pub asked_before : (asker after : ClientInfo) (value : Frame) (becomes : Answer) (unsent given : List ℕ) (v : View) (hearing later : Hearing) (w : View)
+  pub asked_before : (asker after : ClientInfo) (value : Frame) (becomes : Answer) (unsent given : List ℕ) (v : View) (hearing later : NotesHeard) (w : View)
       → after ≡ asker_after asker value → (more : List ℕ) × (given ≡ unsent ++ more)
       × Answers start now after becomes (party v hearing.listens) value more (party w later.listens)
       → (more : List ℕ) × (given ≡ unsent ++ more)
@@ -184,7 +184,7 @@ module _ (start : World) (now : ℕ) where
         (subst (λ (x : ClientInfo). Answers start now x becomes (party v hearing.listens) value got.0 (party w later.listens)) is got.2),
   )
 
-  pub answered_by_others : (before after : Attendance) (l later_l : Listening) (hearing later : Hearing) (v w : View) (value : Frame) (unsent given : List ℕ) → IsReady before l hearing
+  pub answered_by_others : (before after : Attendance) (l later_l : Listening) (hearing later : NotesHeard) (v w : View) (value : Frame) (unsent given : List ℕ) → IsReady before l hearing
       → before.asker.protocol ≡ Two → channel_turn before.asker l value ≡ other → confined l after.asker ≡ confined l (asker_after before.asker value)
       → after.asker.listens ≡ is_confined after.asker.protocol l → after.held ≡ before.held → later.told ≡ hearing.told → later_l ≡ l
       → (more : List ℕ) × (given ≡ unsent ++ more)
@@ -201,7 +201,7 @@ module _ (start : World) (now : ℕ) where
       )
 
   -- at protocol 3 a session beside the one below answered it, which listens to notes as before
-  pub answered_beside : (before after : Attendance) (l later_l : Listening) (hearing later : Hearing) (v w : View) (value : Frame) (unsent given : List ℕ) → IsReady before l hearing
+  pub answered_beside : (before after : Attendance) (l later_l : Listening) (hearing later : NotesHeard) (v w : View) (value : Frame) (unsent given : List ℕ) → IsReady before l hearing
       → channel_turn before.asker l value ≡ other → confined l after.asker ≡ confined l (asker_after before.asker value)
       → after.asker.listens ≡ is_confined after.asker.protocol l → after.held ≡ before.held → later ≡ hearing → later_l ≡ l
       → AnswersBeside start now before.asker (courtesy (roster_of start.plan) before.asker value) v value unsent given w
@@ -231,13 +231,13 @@ module _ (start : World) (now : ℕ) where
       in (
         more,
         got.left_is,
-        subst (λ (x : Listening). IsReady after x later) (sym same) (subst (λ (t : Hearing). IsReady after l t) (sym same_hearing) is_ready),
+        subst (λ (x : Listening). IsReady after x later) (sym same) (subst (λ (t : NotesHeard). IsReady after l t) (sym same_hearing) is_ready),
         subst (λ (x : Listening). ServesBeside start now g value more (guest_of after x later w)) (sym same)
-            (subst (λ (t : Hearing). ServesBeside start now g value more (guest_of after l t w)) (sym same_hearing) there),
+            (subst (λ (t : NotesHeard). ServesBeside start now g value more (guest_of after l t w)) (sym same_hearing) there),
       )
 
   -- there a session below that listens to no notes may answer it too
-  pub served_unheard : (before after : Attendance) (l : Listening) (hearing later : Hearing) (v w : View) (value : Frame) (more : List ℕ) (listens : Option ℕ) → IsReady before l hearing
+  pub served_unheard : (before after : Attendance) (l : Listening) (hearing later : NotesHeard) (v w : View) (value : Frame) (more : List ℕ) (listens : Option ℕ) → IsReady before l hearing
       → channel_turn before.asker l value ≡ other → confined l after.asker ≡ confined l (asker_after before.asker value) → later.told ≡ hearing.told
       → later.listens ≡ hearing.listens
       → Answers start now before.asker (courtesy (roster_of start.plan) before.asker value) (party v None) value more (party w listens)
@@ -277,9 +277,9 @@ other_turn (confirmed answers l) is = absurd (let no : ⊥ = cc in no)
 pub listens_on : (l m : Listening) (t : ChannelAnswer) → t ≡ other → m ≡ listening_after l t → m ≡ l
 listens_on l m t is after = after ∙ ap (λ (x : ChannelAnswer). listening_after l x) is
 
-pub ready_same : (before same : Attendance) (l m : Listening) (hearing kept : Hearing) → IsReady before l hearing → same ≡ before → m ≡ l → kept ≡ hearing → IsReady same m kept
+pub ready_same : (before same : Attendance) (l m : Listening) (hearing kept : NotesHeard) → IsReady before l hearing → same ≡ before → m ≡ l → kept ≡ hearing → IsReady same m kept
 ready_same before same l m hearing kept ready a b c =
-    subst (λ (x : Attendance). IsReady x m kept) (sym a) (subst (λ (x : Listening). IsReady before x kept) (sym b) (subst (λ (x : Hearing). IsReady before l x) (sym c) ready))
+    subst (λ (x : Attendance). IsReady x m kept) (sym a) (subst (λ (x : Listening). IsReady before x kept) (sym b) (subst (λ (x : NotesHeard). IsReady before l x) (sym c) ready))
 
 pub turn_same : (before same : Attendance) (l m : Listening) (value : Frame) → channel_turn before.asker l value ≡ other → same ≡ before → m ≡ l
     → channel_turn same.asker m value ≡ other
@@ -287,7 +287,7 @@ turn_same before same l m value is a b =
     ap (λ (x : Attendance). channel_turn x.asker m value) a ∙ ap (λ (x : Listening). channel_turn before.asker x value) b ∙ is
 
 module _ (start : World) (now : ℕ) where
-  pub served_same : {X : Type 0} (protocol spoken : Protocol) (before same : Attendance) (l m : Listening) (hearing kept : Hearing) (v : View) (value : Frame)
+  pub served_same : {X : Type 0} (protocol spoken : Protocol) (before same : Attendance) (l m : Listening) (hearing kept : NotesHeard) (v : View) (value : Frame)
       (unsent held_back given : List ℕ) (h : Guest) → spoken ≡ protocol → same ≡ before → m ≡ l → kept ≡ hearing → held_back ≡ unsent
       → (more : List ℕ) × (given ≡ held_back ++ more) × X × ServesIn start now protocol (guest_of same m kept v) value more h
       → (more : List ℕ) × (given ≡ unsent ++ more) × X × ServesIn start now spoken (guest_of before l hearing v) value more h
@@ -298,7 +298,7 @@ module _ (start : World) (now : ℕ) where
     subst (λ (p : Protocol). ServesIn start now p (guest_of before l hearing v) value got.0 h) (sym speaks)
         (subst (λ (x : Attendance). ServesIn start now protocol (guest_of x l hearing v) value got.0 h) a
         (subst (λ (x : Listening). ServesIn start now protocol (guest_of same x hearing v) value got.0 h) b
-        (subst (λ (x : Hearing). ServesIn start now protocol (guest_of same m x v) value got.0 h) c got.3))),
+        (subst (λ (x : NotesHeard). ServesIn start now protocol (guest_of same m x v) value got.0 h) c got.3))),
   )
 
 -- ---- values of a stream

@@ -18,7 +18,7 @@ use Rattle.resp2.specs.Commands.{command_of}
 use Rattle.resp2.proofs.Switches.{known_too}
 use Rattle.sentinel_core.specs.declared.serving.fault.ServeFault.{ServeFault}
 use Rattle.sentinel_core.specs.declared.serving.fault.ServeFault.TheVariants.{Halted, NoMemory as OutOfMemory}
-use Rattle.port_sessions.specs.declared.hearing.Hearing.{Hearing}
+use Rattle.port_sessions.specs.declared.hearing.NotesHeard.{NotesHeard}
 use Rattle.port_sessions.specs.Talks.{Party, party, Responds}
 use Rattle.ballot_law.specs.declared.commands.Command.{Command}
 use Rattle.ballot_law.specs.declared.commands.Command.TheVariants.{Info, Subscribe}
@@ -93,7 +93,7 @@ hears_none channels patterns a b =
     ap (λ (x : List (List ℕ)). holds x switches || list_any (λ pattern. matches pattern switches) patterns) a
     ∙ ap (λ (x : List (List ℕ)). holds [] switches || list_any (λ pattern. matches pattern switches) x) b
 
-none_below : (l : Listening) (hearing : Hearing) → is_some hearing.listens ≡ hears_switches l → is_listening l ≡ false → hearing.listens ≡ None
+none_below : (l : Listening) (hearing : NotesHeard) → is_some hearing.listens ≡ hears_switches l → is_listening l ≡ false → hearing.listens ≡ None
 none_below l hearing hears quiet =
     let none = no_sum (length l.channels) (length l.patterns) quiet in
     no_entry hearing.listens (hears ∙ hears_none l.channels l.patterns (no_items l.channels none.0) (no_items l.patterns none.1))
@@ -121,14 +121,14 @@ module _ (start : World) (now : ℕ) where
   told_in_three g h value answer bytes after s told = (answer, s, subst (λ (p : Protocol). IsTold p (shape_of value) answer bytes) (sym after) told)
 
   -- a value was answered, which protocol 2 tells as it is
-  pub tells_in_two : (g : Guest) (after : Attendance) (l : Listening) (hearing : Hearing) (w : View) (value : Frame) (unsent given : List ℕ) → after.asker.protocol ≡ Two
+  pub tells_in_two : (g : Guest) (after : Attendance) (l : Listening) (hearing : NotesHeard) (w : View) (value : Frame) (unsent given : List ℕ) → after.asker.protocol ≡ Two
       → (more : List ℕ) × (given ≡ unsent ++ more) × IsReady after l hearing × ServesIn start now g.asker.protocol g value more (guest_of after l hearing w)
       → (more : List ℕ) × (given ≡ unsent ++ more) × IsReady after l hearing × Tells start now g value more (guest_of after l hearing w)
   tells_in_two g after l hearing w value unsent given speaks got =
       (got.0, got.1, got.2, (got.0, got.3, subst (λ (p : Protocol). IsTold p (shape_of value) got.0 got.0) (sym speaks) refl))
 
   -- or protocol 3 tells it in its own way
-  pub tells_in_three : (g : Guest) (mid after : Attendance) (mid_l l : Listening) (mid_hearing hearing : Hearing) (w : View) (value : Frame) (unsent answered given : List ℕ) (n : ℕ)
+  pub tells_in_three : (g : Guest) (mid after : Attendance) (mid_l l : Listening) (mid_hearing hearing : NotesHeard) (w : View) (value : Frame) (unsent answered given : List ℕ) (n : ℕ)
       → n ≡ length unsent → mid.asker.protocol ≡ Three → after ≡ mid → l ≡ mid_l → hearing ≡ mid_hearing
       → (more : List ℕ) × (answered ≡ unsent ++ more) × IsReady mid mid_l mid_hearing × ServesIn start now g.asker.protocol g value more (guest_of mid mid_l mid_hearing w)
       → JoinsTold Three (shape_of value) (drop n answered) (take n answered) given
@@ -143,7 +143,7 @@ module _ (start : World) (now : ℕ) where
         ready_same mid after mid_l l mid_hearing hearing got.2 a b c,
         subst (λ (x : Attendance). Tells start now g value told.0 (guest_of x l hearing w)) (sym a)
             (subst (λ (x : Listening). Tells start now g value told.0 (guest_of mid x hearing w)) (sym b)
-            (subst (λ (x : Hearing). Tells start now g value told.0 (guest_of mid mid_l x w)) (sym c) tells)),
+            (subst (λ (x : NotesHeard). Tells start now g value told.0 (guest_of mid mid_l x w)) (sym c) tells)),
       )
 
   -- a command was answered, which protocol 2 tells as it is
@@ -157,7 +157,7 @@ module _ (start : World) (now : ℕ) where
   )
 
   -- or protocol 3 tells it in its own way
-  pub responds_in_three : (protocol : Protocol) (p : Party) (asked : Result Command CommandFault) (mid hearing : Hearing) (w : View) (unsent answered given : List ℕ) (n : ℕ)
+  pub responds_in_three : (protocol : Protocol) (p : Party) (asked : Result Command CommandFault) (mid hearing : NotesHeard) (w : View) (unsent answered given : List ℕ) (n : ℕ)
       → n ≡ length unsent → protocol ≡ Three → hearing ≡ mid
       → (more : List ℕ) × (answered ≡ unsent ++ more) × Responds start now p asked more (party w mid.listens)
       → JoinsTold Three Plain (drop n answered) (take n answered) given
@@ -170,14 +170,14 @@ module _ (start : World) (now : ℕ) where
         told.1 ∙ ap (λ (t : List ℕ). t ++ told.0) front,
         record {
           answer = got.0;
-          responds = subst (λ (t : Hearing). Responds start now p asked got.0 (party w t.listens)) (sym same) got.2;
+          responds = subst (λ (t : NotesHeard). Responds start now p asked got.0 (party w t.listens)) (sym same) got.2;
           told = subst (λ (s : Protocol). IsTold s Plain got.0 told.0) (sym speaks) is_told;
         },
       )
 
   -- a value was answered
   pub step_answered : {V : Type 0} (view : V → Frame) (value : V) (stream first bytes : List ℕ) (g : Guest) (before between after : Attendance) (l later_l : Listening)
-      (unsent left : List ℕ) (hearing later : Hearing) (v w : View) → unsent ≡ first ++ bytes → IsOnTheWay start now stream g before.held bytes (guest_of before l hearing v)
+      (unsent left : List ℕ) (hearing later : NotesHeard) (v w : View) → unsent ≡ first ++ bytes → IsOnTheWay start now stream g before.held bytes (guest_of before l hearing v)
       → IsReady before l hearing → Reads view before.held (Ok (Some value)) between.held → between.asker ≡ before.asker → after.held ≡ between.held
       → (more : List ℕ) × (left ≡ unsent ++ more) × IsReady after later_l later
       × Tells start now (guest_of between l hearing v) (view value) more (guest_of after later_l later w)
@@ -193,7 +193,7 @@ module _ (start : World) (now : ℕ) where
       )
 
   -- a command that comes nearly always was answered by the session below: at protocol 2
-  common_in_two : (command : Command) (before after : Attendance) (l : Listening) (hearing later : Hearing) (v w : View) (value : Frame) (more : List ℕ) → IsReady before l hearing
+  common_in_two : (command : Command) (before after : Attendance) (l : Listening) (hearing later : NotesHeard) (v w : View) (value : Frame) (more : List ℕ) → IsReady before l hearing
       → IsCommon command → is_stranger before.asker ≡ false → is_listening l ≡ false → before.asker.protocol ≡ Two → command_of value ≡ Ok command
       → after.asker ≡ before.asker → later.told ≡ hearing.told
       → RespondsIn start now Two (party v hearing.listens) (heard_as before.asker.current (Ok command)) more (party w later.listens)
@@ -209,7 +209,7 @@ module _ (start : World) (now : ℕ) where
       subst (λ (t : List ℕ). Tells start now (guest_of before l hearing v) value t (guest_of after l later w)) (sym got.told) tells
 
   -- and at protocol 3, where a session below that listens to no notes is as one beside it
-  common_in_three : (command : Command) (before after : Attendance) (l : Listening) (hearing later : Hearing) (v w : View) (value : Frame) (more : List ℕ) → IsReady before l hearing
+  common_in_three : (command : Command) (before after : Attendance) (l : Listening) (hearing later : NotesHeard) (v w : View) (value : Frame) (more : List ℕ) → IsReady before l hearing
       → IsCommon command → is_stranger before.asker ≡ false → is_listening l ≡ false → before.asker.protocol ≡ Three → command_of value ≡ Ok command
       → after.asker ≡ before.asker → later.told ≡ hearing.told
       → RespondsIn start now Three (party v hearing.listens) (heard_as before.asker.current (Ok command)) more (party w later.listens)
@@ -231,7 +231,7 @@ module _ (start : World) (now : ℕ) where
       told_in_three g h value answer more speaks_on (subst (λ (p : Protocol). ServesIn start now p g value answer h) (sym speaks) serves)
       (subst (λ (s : Shape). IsTold Three s answer more) (sym (common_shape value command common is)) got.told)
 
-  pub common_tells : (protocol : Protocol) (command : Command) (before after : Attendance) (l : Listening) (hearing later : Hearing) (v w : View) (value : Frame) (more : List ℕ)
+  pub common_tells : (protocol : Protocol) (command : Command) (before after : Attendance) (l : Listening) (hearing later : NotesHeard) (v w : View) (value : Frame) (more : List ℕ)
       → IsReady before l hearing → IsCommon command → is_stranger before.asker ≡ false → is_listening l ≡ false → before.asker.protocol ≡ protocol
       → command_of value ≡ Ok command → after.asker ≡ before.asker → later.told ≡ hearing.told
       → RespondsIn start now protocol (party v hearing.listens) (heard_as before.asker.current (Ok command)) more (party w later.listens)
@@ -241,7 +241,7 @@ module _ (start : World) (now : ℕ) where
   common_tells Three command before after l hearing later v w value more ready common known quiet speaks is asker told got =
       common_in_three command before after l hearing later v w value more ready common known quiet speaks is asker told got
 
-  pub step_common : (command : Command) (stream first bytes : List ℕ) (g : Guest) (before after : Attendance) (l later_l : Listening) (unsent left : List ℕ) (hearing later : Hearing)
+  pub step_common : (command : Command) (stream first bytes : List ℕ) (g : Guest) (before after : Attendance) (l later_l : Listening) (unsent left : List ℕ) (hearing later : NotesHeard)
       (v w : View) → unsent ≡ first ++ bytes → IsOnTheWay start now stream g before.held bytes (guest_of before l hearing v) → IsReady before l hearing
       → TakesCommon before.held after.held command → IsCommon command → (is_stranger before.asker ≡ false) × (is_listening l ≡ false)
       → after.asker ≡ before.asker → later_l ≡ l

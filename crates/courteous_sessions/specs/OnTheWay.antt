@@ -14,7 +14,7 @@ use Rattle.client_commands.specs.Lines.{Reads}
 use Rattle.sentinel_core.specs.declared.serving.fault.ServeFault.{ServeFault}
 use Rattle.sentinel_core.specs.declared.serving.fault.ServeFault.TheVariants.{Frame as FaultyFrame, NoMemory as OutOfMemory}
 use Rattle.sentinel_core.specs.Serving.Serving.{last_line}
-use Rattle.port_sessions.specs.declared.hearing.Hearing.{Hearing}
+use Rattle.port_sessions.specs.declared.hearing.NotesHeard.{NotesHeard}
 use Rattle.port_sessions.specs.Notes.{is_news}
 use Rattle.port_sessions.specs.Talks.{Party, party, Responds}
 use Rattle.resp2.specs.declared.command.CommandFault.{CommandFault}
@@ -32,7 +32,7 @@ use Rattle.courteous_sessions.specs.Visits.{Guest, guest, is_confined, unsubscri
 
 -- between two values the responder listens to notes where the connection hears of new addresses and nowhere else, and it is known whether the connection has no commands
 -- but those of Pub/Sub
-pub record IsReady (attended : Attendance) (listening : Listening) (hearing : Hearing) : Type 0 where
+pub record IsReady (attended : Attendance) (listening : Listening) (hearing : NotesHeard) : Type 0 where
   pub reads : attended.held ≡ reading (bytes_in attended.held)
   pub listens : attended.asker.listens ≡ is_confined attended.asker.protocol listening
   pub hears : is_some hearing.listens ≡ hears_switches listening
@@ -51,7 +51,7 @@ IsSilenced None l = Unit {0}
 IsSilenced (Some fault) l = l ≡ unsubscribed
 
 -- what the next answer rests on
-abbrev pub guest_of : Attendance → Listening → Hearing → View → Guest
+abbrev pub guest_of : Attendance → Listening → NotesHeard → View → Guest
 guest_of attended listening hearing v = guest (party v hearing.listens) listening hearing.told attended.asker
 
 -- the same is known of a connection, and the same bytes are held
@@ -65,7 +65,7 @@ pub record BeginsWith (bytes : List ℕ) (value : Frame) : Type 0 where
   pub found : frame_at bytes ≡ Ok (value, rest)
 
 -- What became of a note: it counts as told, and what the connection is told of it joined what isn't sent yet; or it isn't due; or memory for it was refused
-abbrev pub NotifiesBelow : {E : Type 0} → Roster → Note → (entry : ℕ) → Protocol → Listening → Hearing → (unsent : List ℕ) → Result Bool E → Hearing → (unsent : List ℕ)
+abbrev pub NotifiesBelow : {E : Type 0} → Roster → Note → (entry : ℕ) → Protocol → Listening → NotesHeard → (unsent : List ℕ) → Result Bool E → NotesHeard → (unsent : List ℕ)
     → Type 0
 NotifiesBelow roster note entry protocol l hearing unsent (Ok true) after more =
     (is_news hearing.listens hearing.told note entry ≡ true) × (after.listens ≡ hearing.listens)
@@ -83,7 +83,7 @@ TellsBelow event protocol l unsent (Err refused) more = more ≡ unsent
 
 module _ (start : World) (now : ℕ) where
   -- the responder listens to notes where the connection hears of new addresses, and nowhere else
-  pub record IsTuned (hears : Bool) (hearing : Hearing) (v : View) (after : Hearing) (w : View) : Type 0 where
+  pub record IsTuned (hears : Bool) (hearing : NotesHeard) (v : View) (after : NotesHeard) (w : View) : Type 0 where
     pub listens : is_some after.listens ≡ hears
     pub tunes : Tunes start now hears (party v hearing.listens) (party w after.listens)
     pub told : after.told ≡ told_after hears hearing.told

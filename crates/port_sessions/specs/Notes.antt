@@ -6,14 +6,14 @@ use Rattle.ballot_law.specs.Rosters.{Roster}
 use Rattle.resp2.specs.Framing.Frame.{spelling}
 use Rattle.port_sessions.specs.Listening.{note_frame}
 use Rattle.port_sessions.specs.Talks.{Talk}
-use Rattle.port_sessions.specs.declared.hearing.Hearing.{Hearing}
+use Rattle.port_sessions.specs.declared.hearing.NotesHeard.{NotesHeard}
 
 -- no master's configuration was told, of all that a roster has room for
 abbrev pub none_told : List (Option ℕ)
 none_told = replicate MASTERS_MAX None
 
 -- who never listened
-abbrev pub unheard : Hearing
+abbrev pub unheard : NotesHeard
 unheard = record { listens = None; told = none_told }
 
 -- the session listens since an entry before this one

@@ -9,17 +9,17 @@ use ballot_law::{MASTERS_MAX, Note};
 /// Since which entry of the Sentinel's history a client listens to notes, if it does, and of each master the epoch of
 /// the configuration that it was told last.
 #[derive(Drop)]
-pub struct Hearing {
+pub struct NotesHeard {
     pub(crate) listens: Option<u64>,
     told: [Option<u64>; MASTERS_MAX],
 }
 
-impl Hearing {
+impl NotesHeard {
     /// That of a client that never listened.
-    pub(crate) fn none() -> Hearing
+    pub(crate) fn none() -> NotesHeard
         ensures { result ≡ unheard }
     {
-        Hearing {
+        NotesHeard {
             listens: None,
             told: [None; MASTERS_MAX],
         }

@@ -31,7 +31,7 @@ mod notes;
 mod responder;
 mod session;
 
-pub use hearing::Hearing;
+pub use hearing::NotesHeard;
 pub use laws::{law_answers_are_served, law_notes_rise, law_others_store_nothing, law_pieces_join};
 pub use limit::{Limit, Reach, may_store};
 pub use notes::add_note;

@@ -19,7 +19,7 @@ ghost use Rattle.port_sessions.specs.Notes.{unheard, is_news};
 ghost use Rattle.port_sessions.specs.Talks.{IsTold, takes_turn, party, listens_after, Ends, BeginsNotes, Fails};
 ghost use Rattle.port_sessions.specs.OnTheWay.{Turns, Refuses, ended_by};
 
-use crate::hearing::Hearing;
+use crate::hearing::NotesHeard;
 use crate::notes::{line_for_listener, write_note};
 use ballot_law::{
     Body, Card, Command, Event, Input, MASTERS_MAX, Message, Name, NoMemory, NodeName, Note,
@@ -50,7 +50,7 @@ pub struct Responder {
     alloc: Global,
     outbox: Outbox,
     unsent: BytesMut,
-    hears: Hearing,
+    hears: NotesHeard,
     ghost none_held: { outbox.held ≡ [] },
 }
 
@@ -164,7 +164,7 @@ impl Responder {
             alloc,
             outbox: Outbox::new(alloc),
             unsent: BytesMut::new(alloc),
-            hears: Hearing::none(),
+            hears: NotesHeard::none(),
         }
     }
 
@@ -475,7 +475,7 @@ impl Responder {
         ensures hears { self.new.hears ≡ unheard }
         ensures unsent { self.new.unsent ≡ self.old.unsent }
     {
-        self.hears = Hearing::none();
+        self.hears = NotesHeard::none();
     }
 
     /// Whether a note of this entry is news to the client, which then counts as told; no bytes are put out. For a

@@ -1,6 +1,6 @@
 use Rattle.std.proofs.Common.{◌∙◌, ap, sym, subst}
 use Rattle.client_commands.specs.Attendants.{Attendance, TakesCommon}
-use Rattle.port_sessions.specs.declared.hearing.Hearing.{Hearing}
+use Rattle.port_sessions.specs.declared.hearing.NotesHeard.{NotesHeard}
 use Rattle.courteous_sessions.proofs.Stepping.{step_common}
 use Rattle.client_commands.specs.Lines.{value_at}
 use Rattle.resp2.specs.Framing.Stream.{bytes_in}
@@ -21,7 +21,7 @@ returns-in-Ok-clause-answered g c = λ stream first bytes visitor is a.
     step_common c.args.cell.now.start c.args.now command stream first bytes visitor before.attendant after.attendant before.subscriptions after.subscriptions before.responder.unsent.items
     after.responder.unsent.items before.responder.hears after.responder.hears c.args.seat.now.view c.tell_common.new.seat.view is a c.requires.ready taken c.in-Some.ensures.common.0 c.in-Some.ensures.plain
     (ap (λ (x : Attendance). x.asker) kept ∙ c.next_common.ensures.asker) (c.tell_common.ensures.kept.1 ∙ c.next_common.ensures.kept)
-    (c.tell_common.ensures.told ∙ ap (λ (t : Hearing). t.told) c.next_common.ensures.hears)
+    (c.tell_common.ensures.told ∙ ap (λ (t : NotesHeard). t.told) c.next_common.ensures.hears)
     (rw (c.next_common.ensures.hears, c.next_common.ensures.unsent, c.next_common.ensures.asker) at c.in-Ok.ensures.answered)
 
 pub returns-in-None-clause-answered : goal.returns-in-None-clause-answered

@@ -1,7 +1,7 @@
 use Rattle.std.proofs.Common.{◌∙◌, ap, sym, subst}
 use Rattle.client_commands.specs.Attendants.{Attendance}
 use Rattle.port_sessions.specs.declared.limit.Reach.TheVariants.{Done}
-use Rattle.port_sessions.specs.declared.hearing.Hearing.{Hearing}
+use Rattle.port_sessions.specs.declared.hearing.NotesHeard.{NotesHeard}
 use Rattle.resp2.specs.Framing.Frame.{view}
 use Rattle.courteous_sessions.specs.GoingOn.{IsCommonAhead, Stops}
 use Rattle.courteous_sessions.specs.OnTheWay.{guest_of}
@@ -31,7 +31,7 @@ returns-in-Ok-clause-answered g c = λ most stream first bytes visitor is a.
     common_within c.args.cell.now.start c.args.now most stream visitor command first bytes before.attendant after.attendant before.subscriptions after.subscriptions
     before.responder.unsent.items after.responder.unsent.items before.responder.hears after.responder.hears c.args.seat.now.view c.tell_common.new.seat.view c.args.limit.now.most limit.most limit.mark is a
     c.requires.ready there (ap (λ (x : Attendance). x.asker) kept ∙ c.next_within.ensures.asker) (c.tell_common.ensures.kept.1 ∙ c.next_within.ensures.kept)
-    (c.tell_common.ensures.told ∙ ap (λ (t : Hearing). t.told) c.next_within.ensures.hears)
+    (c.tell_common.ensures.told ∙ ap (λ (t : NotesHeard). t.told) c.next_within.ensures.hears)
     (rw (c.next_within.ensures.hears, c.next_within.ensures.unsent, c.next_within.ensures.asker) at c.in-Ok.ensures.answered)
 
 pub returns-in-Ok-Common-clause-answered : goal.returns-in-Ok-Common-clause-answered

@@ -2,7 +2,7 @@ use Rattle.std.proofs.Common.{◌∙◌, ◌++◌, ap, sym, subst, take, length,
 use Rattle.ballot_law.specs.declared.commands.Command.TheVariants.{Info}
 use Rattle.client_commands.specs.Attendants.{Attendance}
 use Rattle.client_commands.specs.Infos.{info}
-use Rattle.port_sessions.specs.declared.hearing.Hearing.{Hearing}
+use Rattle.port_sessions.specs.declared.hearing.NotesHeard.{NotesHeard}
 use Rattle.port_sessions.specs.Talks.{party, Responds}
 use Rattle.resp2.specs.Framing.Frame.{view, spelling}
 use Rattle.courteous_sessions.proofs.Stepping.{on_ok, info_asked}
@@ -23,7 +23,7 @@ returns-in-Ok-clause-answered g c =
     (λ put.
     info_asked c.args.cell.now.start c.args.now n before.attendant.asker.port.figures value p (party c.ask.new.seat.view c.put_out.new.self.hears.listens)
     before.responder.unsent.items asked.responder.unsent.items c.put_out.new.self.unsent.items c.inform-informed.new.self.attendant.text (ap length c.unsent-start.ensures)
-    (turned.0, turned.1, subst (λ (h : Hearing). Responds c.args.cell.now.start c.args.now p (Ok Info) turned.0 (party c.ask.new.seat.view h.listens)) (sym hears) turned.2)
+    (turned.0, turned.1, subst (λ (h : NotesHeard). Responds c.args.cell.now.start c.args.now p (Ok Info) turned.0 (party c.ask.new.seat.view h.listens)) (sym hears) turned.2)
     (told.0, told.1, told.2 ∙ ap (λ (a : Attendance). spelling (info a.asker.port.figures value told.0)) c.ask.ensures.kept.0)
     (put ∙ ap (λ (t : List ℕ). t ++ c.text.result.now) left ∙ ap (λ (t : List ℕ). take n asked.responder.unsent.items ++ t) c.text.ensures))
     c.put_out.ensures.ok

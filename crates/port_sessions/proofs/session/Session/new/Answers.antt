@@ -1,10 +1,10 @@
 use Rattle.std.proofs.Common.{List, [], ℕ, Option, None, ap, ◌∙◌}
 use Rattle.resp2.specs.Framing.Stream.{bytes_in}
-use Rattle.port_sessions.specs.declared.hearing.Hearing.{Hearing}
+use Rattle.port_sessions.specs.declared.hearing.NotesHeard.{NotesHeard}
 use Rattle.port_sessions.specs.Talks.{Talk}
 use Rattle.port_sessions.proofs.session.Session.new.Goals as goal
 
-abbrev begun : (held unsent : List ℕ) → Hearing → Talk
+abbrev begun : (held unsent : List ℕ) → NotesHeard → Talk
 begun held unsent hears = record { held = held; unsent = unsent; ended = None; listens = hears.listens; told = hears.told }
 
 pub returns : goal.returns
