@@ -5,11 +5,11 @@ use Rattle.std.specs.List.{AllByRecursion}
 use Rattle.std.proofs.lemmas.List.Elements.{All-head, All-tail}
 use Rattle.ballot_law.specs.declared.cards.Shown.{Shown}
 use Rattle.ballot_law.specs.declared.commands.Command.{Command}
-use Rattle.ballot_law.specs.declared.commands.Command.TheVariants.{Ping, IsMasterDownByAddr, GetMasterAddrByName, Masters, Master, Replicas, Sentinels, MyId, CkQuorum, Failover, FlushConfig, Subscribe}
+use Rattle.ballot_law.specs.declared.commands.Command.TheVariants.{Ping, IsMasterDownByAddr, GetMasterAddrByName, Masters, Master, Replicas, Sentinels, MyId, CkQuorum, Failover, FlushConfig, Subscribe, Info}
 use Rattle.ballot_law.specs.declared.events.Event.{Event}
 use Rattle.ballot_law.specs.declared.events.Input.{Input}
 use Rattle.ballot_law.specs.declared.messages.Output.{Output}
-use Rattle.client_commands.specs.Courtesies.{Answer, left, said, asks_masters, silent, courtesy}
+use Rattle.client_commands.specs.Courtesies.{Answer, left, said, asks_info, silent, courtesy}
 use Rattle.client_commands.specs.declared.protocols.Protocol.{Protocol}
 use Rattle.client_commands.specs.declared.protocols.Protocol.TheVariants.{Two, Three}
 use Rattle.courteous_sessions.specs.Clients.{TakesSome}
@@ -38,6 +38,7 @@ use Rattle.sentinel_cell.specs.declared.view.View.{View}
 use Rattle.sentinel_cell.specs.Calls.{Has, calls_by, AreUnder}
 use Rattle.sentinel_cell.specs.Histories.{World}
 use Rattle.sentinel_cell.specs.Standing.{Adds, Faulted, Acted}
+use Rattle.sentinel_rules.specs.Plans.{roster_of}
 use Rattle.sentinel_cell.proofs.Fronts.{calls-append}
 use Rattle.sentinel_core.specs.declared.serving.fault.ServeFault.{ServeFault}
 use Rattle.sentinel_core.specs.declared.serving.fault.ServeFault.TheVariants as serve
@@ -122,6 +123,7 @@ module _ (told : Event → Type 0) where
       replied_heard v w (Ok (Failover name)) bytes t well = turn_heard v w (Failover name) bytes t well
       replied_heard v w (Ok FlushConfig) bytes t well = turn_heard v w FlushConfig bytes t well
       replied_heard v w (Ok Subscribe) bytes t well = turn_heard v w Subscribe bytes t well
+      replied_heard v w (Ok Info) bytes t well = turn_heard v w Info bytes t well
       replied_heard v w (Err fault) bytes t well = subst Well (sym t.1) well
 
       responded_at : (listens : Option ℕ) (v : View) (q : Party) (command : Result Command CommandFault) (bytes : List ℕ)
@@ -177,10 +179,10 @@ module _ (told : Event → Type 0) where
           → Well q.view
       answers_heard asker left p q value bytes a well = responded p q (heard_as asker.current (redis_command_of value)) bytes a well
       answers_heard asker (said frame) p q value bytes a well = subst (λ (x : Party). Well x.view) (sym a.1) well
-      answers_heard asker asks_masters p q value bytes a well = responded p q (Ok Masters) a.answer a.turned well
+      answers_heard asker asks_info p q value bytes a well = responded p q (Ok Info) a.answer a.turned well
       answers_heard asker silent p q value bytes a well = subst (λ (x : Party). Well x.view) (sym a.1) well
 
-      notes_begun : (listens : Option ℕ) (p q : Party) → visits.BeginsNotes start now listens p q → Well p.view → Well q.view
+      notes_begun : (listens : Option ℕ) (p q : Party) → talks.BeginsNotes start now listens p q → Well p.view → Well q.view
       notes_begun None p q b well = responded p q (Ok Subscribe) b.0 b.1 well
       notes_begun (Some entry) p q b well = subst (λ (x : Party). Well x.view) (sym b) well
 
@@ -191,14 +193,14 @@ module _ (told : Event → Type 0) where
       served_by : (answer : ChannelAnswer) (g : Guest) (value : Frame) (bytes : List ℕ) (h : Guest) → visits.ServesBy start now answer g value bytes h → Well g.party.view
           → Well h.party.view
       served_by other g value bytes h s well =
-          subst (λ (x : Guest). Well x.party.view) (sym s.2) (answers_heard g.asker (courtesy g.asker value) g.party s.0 value bytes s.1 well)
+          subst (λ (x : Guest). Well x.party.view) (sym s.2) (answers_heard g.asker (courtesy (roster_of start.plan) g.asker value) g.party s.0 value bytes s.1 well)
       served_by (confirmed answers after) g value bytes h s well =
           subst (λ (x : Guest). Well x.party.view) (sym s.3) (tuned (hears_switches after) g.party s.0 s.1 well)
 
       served_beside : (answer : ChannelAnswer) (g : Guest) (value : Frame) (bytes : List ℕ) (h : Guest) → visits.ServesBesideBy start now answer g value bytes h
           → Well g.party.view → Well h.party.view
       served_beside other g value bytes h s well =
-          subst (λ (x : Guest). Well x.party.view) (sym s.2) (answers_heard g.asker (courtesy g.asker value) (party g.party.view None) s.0 value bytes s.1 well)
+          subst (λ (x : Guest). Well x.party.view) (sym s.2) (answers_heard g.asker (courtesy (roster_of start.plan) g.asker value) (party g.party.view None) s.0 value bytes s.1 well)
       served_beside (confirmed answers after) g value bytes h s well = served_by (confirmed answers after) g value bytes h s well
 
       served_in : (protocol : Protocol) (g : Guest) (value : Frame) (bytes : List ℕ) (h : Guest) → visits.ServesIn start now protocol g value bytes h → Well g.party.view
