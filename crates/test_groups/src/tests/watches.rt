@@ -210,13 +210,16 @@ impl<T: Read + Write> Clients<'_, T> {
     }
 
     /// Has the file refuse each text, and asks for a vote that is to be stored, at whichever node the master is: so the
-    /// Sentinel is halted.
+    /// Sentinel is halted, and its port closes the connection.
     fn end(&mut self) -> io::Result<()> {
         self.told.refuses.store(1, Ordering::SeqCst);
         for port in [self.ports.master, self.ports.replica] {
             let ask = ask_of(self.alloc, port, REFUSED_EPOCH)?;
             self.client.write_all(ask.as_bytes())?;
         }
+        // (bytes that wait are lost at the end of a connection whose answers nobody read)
+        let mut rest = Vec::new(self.alloc);
+        self.client.read_to_end(&mut rest)?;
         Ok(())
     }
 }
@@ -253,7 +256,8 @@ where
     R: Threads + Wait + Net + Clock + ReadsTimes + Log + Sync,
 {
     fn run(self) -> Ended {
-        let (left, ended) = self.watch.run(self.rt);
+        let Begun { rt, watch } = self;
+        let (left, ended) = watch.run(rt);
         (left.is_some(), ended)
     }
 }
