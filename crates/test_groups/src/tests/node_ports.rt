@@ -7,8 +7,10 @@ use crate::tests::clients::client_at;
 use crate::tests::confs::{free_ports, nodes_at};
 use ballot_law::{Addr, DataRole, Info};
 use data_node_port::{NodePorts, ShownNodes};
+use log::Log;
 use std::alloc::Global;
 use std::io::{self, Read, Write};
+use std::net::{Net, TcpStream};
 use std::rt::Clock;
 use std::sync::Wait;
 use std::sync::atomic::{AtomicU64, Ordering};
@@ -26,6 +28,17 @@ struct TwoNodes {
     looks: AtomicU64,
     followed: AtomicU64,
     ending: AtomicU64,
+}
+
+impl TwoNodes {
+    /// Nobody was told anything yet.
+    fn new() -> TwoNodes {
+        TwoNodes {
+            looks: AtomicU64::new(0),
+            followed: AtomicU64::new(0),
+            ending: AtomicU64::new(0),
+        }
+    }
 }
 
 impl ShownNodes for TwoNodes {
@@ -68,24 +81,38 @@ fn read_all<T: Read>(alloc: Global, stream: &mut T) -> io::Result<Vec<u8>> {
     Ok(got)
 }
 
+/// The ports of two data nodes, which are open.
+fn opened<N: Net + Log>(net: &N, alloc: Global, at: (u16, u16)) -> Result<NodePorts, Fail> {
+    let conf = nodes_at(alloc, at).ok_or("no conf")?;
+    Ok(NodePorts::open(net, alloc, conf.roster())?)
+}
+
+/// Serves ports until they end, and tells what a client of each one is answered; that of the second one sends `ASKED`.
+fn answered<R>(
+    rt: &R,
+    alloc: Global,
+    at: (u16, u16),
+    mut ports: NodePorts,
+    nodes: &TwoNodes,
+) -> io::Result<(Vec<u8>, Vec<u8>)>
+where
+    R: Net<Stream = TcpStream> + Wait + Clock,
+{
+    let (mut first, mut second) = (client_at(rt, at.0)?, client_at(rt, at.1)?);
+    second.write_all(ASKED)?;
+    ports.serve(rt, rt, nodes, &nodes.ending)?;
+    Ok((read_all(alloc, &mut first)?, read_all(alloc, &mut second)?))
+}
+
 #[test]
 fn data_nodes_answer_at_their_ports(rt: HostRuntime) -> Result<(), Fail> {
     let alloc = rt.alloc();
     let at = free_ports(&rt)?;
-    let conf = nodes_at(alloc, at).ok_or("no conf")?;
-    let nodes = TwoNodes {
-        looks: AtomicU64::new(0),
-        followed: AtomicU64::new(0),
-        ending: AtomicU64::new(0),
-    };
-    let mut ports = NodePorts::open(&rt, alloc, conf.roster())?;
-    let (mut first, mut second) = (client_at(&rt, at.0)?, client_at(&rt, at.1)?);
-    second.write_all(ASKED)?;
-    ports.serve(&rt, &rt, &nodes, &nodes.ending)?;
-    let (of_first, of_second) = (read_all(alloc, &mut first)?, read_all(alloc, &mut second)?);
+    let nodes = TwoNodes::new();
+    let ports = opened(&rt, alloc, at)?;
+    let (of_first, of_second) = answered(&rt, alloc, at, ports, &nodes)?;
     assert_eq!(rt; of_second.as_slice(), ANSWERED);
     assert_eq!(rt; nodes.followed.load(Ordering::SeqCst), 7001);
     assert!(rt; of_first.is_empty(), "a stopped node closes its clients");
-    drop(ports);
     Ok(())
 }

@@ -14,7 +14,7 @@ use sentinel_rules::Profile;
 use sentinel_runner::{GroupFault, LoadedConf, PortSettings, Watch, WatchSettings};
 use std::alloc::{AllocError, Global};
 use std::io::{self, Read, Write};
-use std::net::{Ipv4Addr, Net, OpenListener, SocketAddr};
+use std::net::{Ipv4Addr, Net, SocketAddr, TcpListener, TcpStream};
 use std::rt::Clock;
 use std::sync::Wait;
 use std::sync::atomic::Ordering;
@@ -210,13 +210,16 @@ impl<T: Read + Write> Clients<'_, T> {
     }
 
     /// Has the file refuse each text, and asks for a vote that is to be stored, at whichever node the master is: so the
-    /// Sentinel is halted.
+    /// Sentinel is halted, and its port closes the connection.
     fn end(&mut self) -> io::Result<()> {
         self.told.refuses.store(1, Ordering::SeqCst);
         for port in [self.ports.master, self.ports.replica] {
             let ask = ask_of(self.alloc, port, REFUSED_EPOCH)?;
             self.client.write_all(ask.as_bytes())?;
         }
+        // (bytes that wait are lost at the end of a connection whose answers nobody read)
+        let mut rest = Vec::new(self.alloc);
+        self.client.read_to_end(&mut rest)?;
         Ok(())
     }
 }
@@ -253,7 +256,8 @@ where
     R: Threads + Wait + Net + Clock + ReadsTimes + Log + Sync,
 {
     fn run(self) -> Ended {
-        let (left, ended) = self.watch.run(self.rt);
+        let Begun { rt, watch } = self;
+        let (left, ended) = watch.run(rt);
         (left.is_some(), ended)
     }
 }
@@ -341,29 +345,85 @@ const WANTED: Seen = Seen {
     stored: true,
 };
 
+/// Who listens where nodes are played.
+#[derive(Drop)]
+struct Heard {
+    played: TcpListener,
+    master: TcpListener,
+    replica: TcpListener,
+}
+
+impl Heard {
+    /// Each of them at a port of its own.
+    fn open<R>(rt: &R) -> io::Result<Heard>
+    where
+        R: Net<Stream = TcpStream, Listener = TcpListener>,
+    {
+        Ok(Heard {
+            played: listening(rt)?,
+            master: listening(rt)?,
+            replica: listening(rt)?,
+        })
+    }
+
+    /// Their ports, and the one of the Sentinel that watches.
+    fn ports(&self, own: u16) -> io::Result<Ports> {
+        Ok(Ports {
+            own,
+            played: self.played.local_addr()?.port(),
+            master: self.master.local_addr()?.port(),
+            replica: self.replica.local_addr()?.port(),
+        })
+    }
+
+    /// The nodes, which listen there.
+    fn nodes(self, alloc: Global, ports: Ports) -> Result<PlayedNodes, Fail> {
+        let Heard {
+            played,
+            master,
+            replica,
+        } = self;
+        let mut nodes = PlayedNodes::at(alloc, ports)?;
+        nodes.add(Who::Sentinel, played)?;
+        nodes.add(Who::Master, master)?;
+        nodes.add(Who::Replica, replica)?;
+        Ok(nodes)
+    }
+}
+
+/// Nodes that are played, and where they and the Sentinel that watches are.
+fn listening_nodes<R>(rt: &R, alloc: Global) -> Result<(PlayedNodes, Ports), Fail>
+where
+    R: Net<Stream = TcpStream, Listener = TcpListener>,
+{
+    let heard = Heard::open(rt)?;
+    let ports = heard.ports(free_port(rt)?)?;
+    Ok((heard.nodes(alloc, ports)?, ports))
+}
+
+/// The clients of a Sentinel that is open at its port.
+fn clients_of<'a, R: Net<Stream = TcpStream>>(
+    rt: &R,
+    alloc: Global,
+    ports: Ports,
+    told: &'a Told,
+) -> io::Result<Clients<'a, TcpStream>> {
+    Ok(Clients {
+        alloc,
+        ports,
+        client: client_at(rt, ports.own)?,
+        listener: client_at(rt, ports.own)?,
+        told,
+    })
+}
+
 #[test]
 fn a_watch_is_elected_and_tells_so(rt: HostRuntime) -> Result<(), Fail> {
     let alloc = rt.alloc();
-    let (played, master, replica) = (listening(&rt)?, listening(&rt)?, listening(&rt)?);
-    let ports = Ports {
-        own: free_port(&rt)?,
-        played: played.local_addr()?.port(),
-        master: master.local_addr()?.port(),
-        replica: replica.local_addr()?.port(),
-    };
-    let mut nodes = PlayedNodes::at(alloc, ports)?;
-    nodes.add(Who::Sentinel, played)?;
-    nodes.add(Who::Master, master)?;
-    nodes.add(Who::Replica, replica)?;
+    let (nodes, ports) = listening_nodes(&rt, alloc)?;
     let (play, told) = (Play::new(), Told::new());
     let watch = opened(&rt, alloc, ports, &told).ok_or("no Sentinel")?;
-    let clients = Clients {
-        alloc,
-        ports,
-        client: client_at(&rt, ports.own)?,
-        listener: client_at(&rt, ports.own)?,
-        told: &told,
-    };
+    let clients = clients_of(&rt, alloc, ports, &told)?;
     let begun = Begun { rt: &rt, watch };
     let (ended, seen) = run_beside(&rt, &play, begun, nodes, clients);
     assert_eq!(rt; seen.ok_or("no thread")??, WANTED);
