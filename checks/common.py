@@ -81,6 +81,15 @@ def lacking(needs):
             yield f"{name}: {PACKAGES.get(name, 'it is not installed')}"
 
 
+def kind_kept():
+    """Which program of these sources is kept, the proved one or the other. Where none is, the check ends with status 2, as it can't run."""
+    kind = next((kind for kind in ("proved", "unproved") if kit.kept(kind)), None)
+    if not kind:
+        print(f"checks/{os.path.basename(sys.argv[0])} needs a kept program: ./sentinel_group prove, or ./sentinel_group once", file=sys.stderr)
+        sys.exit(2)
+    return kind
+
+
 def need():
     """Ends the check with status 2 where something that it needs isn't there."""
     path = os.path.realpath(sys.argv[0])
