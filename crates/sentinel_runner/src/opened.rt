@@ -41,7 +41,7 @@ impl PortSettings {
     }
 }
 
-/// A Sentinel that is open, with its first seat, its place in the roster, what each thread of its port serves, and that
+/// A Sentinel that is open, with its first seat, by which nothing was called yet, its place in the roster, what each thread of its port serves, and that
 /// port's number. So many threads use it `beside` those of its port.
 #[derive(Drop)]
 pub(crate) struct Opened<S: ConfStore> {
@@ -54,6 +54,7 @@ pub(crate) struct Opened<S: ConfStore> {
     pub(crate) number: u16,
     pub(crate) beside: u16,
     ghost own: { seat.cell ≡ cell.id },
+    ghost unused: { seat.view.front ≡ [] },
     ghost seats: { seat.view.share ≡ length others.items + 1 + beside },
 }
 

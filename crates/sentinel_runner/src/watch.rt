@@ -276,7 +276,7 @@ impl<S: ConfStore + Drop> Watch<S> {
     ) -> (Option<Keeper<S>>, Result<(), GroupFault>)
     where
         S: Send,
-        ensures left { IfSome result.0 (IsLeftByTurns S.held S.failure_count self.watching.opened.cell.start) }
+        ensures left { IfSome result.0 (IsLeftByTurns (λ event. Unit {0}) S.held S.failure_count self.watching.opened.cell.start) }
         ensures ok { OnOk result.1 (IsSome result.0) }
         ensures roster { IfErr result.1 (λ fault. fault ≢ NotOneRoster) }
     {
@@ -317,7 +317,7 @@ where
     requires says { (message : Message) → IsReleased watching.opened.cell.start message → ∥ J.said message ∥₁ }
     requires notes { (note : Note) (number : ℕ) → IsNoted watching.opened.cell.start note number → ∥ J.noted note number ∥₁ }
     requires told { (event : Event) → ∥ J.told event ∥₁ }
-    ensures { IfSome result (IsLeftByTurns S.held S.failure_count watching.opened.cell.start) }
+    ensures { IfSome result (IsLeftByTurns J.told S.held S.failure_count watching.opened.cell.start) }
 {
     run_over::<J, S, NetSockets<'_, J, N>, R>(rt, NetSockets::of(net), state, watching, wires)
 }
@@ -337,7 +337,7 @@ where
     requires named { watching.opened.cell.id ≡ J.cell }
     requires says { (message : Message) → IsReleased watching.opened.cell.start message → ∥ J.said message ∥₁ }
     requires notes { (note : Note) (number : ℕ) → IsNoted watching.opened.cell.start note number → ∥ J.noted note number ∥₁ }
-    ensures { IfSome result (IsLeftByTurns S.held S.failure_count watching.opened.cell.start) }
+    ensures { IfSome result (IsLeftByTurns J.told S.held S.failure_count watching.opened.cell.start) }
 {
     let Watching { opened, alloc } = watching;
     let Opened {
@@ -377,7 +377,7 @@ fn left_of<J: Which, S: ConfStore + Drop, R: Wait>(
     member: RunningSentinel<J, S>,
     back: &Receiver<Back<J>>,
 ) -> Option<Keeper<S>>
-    ensures { IfSome result (IsLeftByTurns S.held S.failure_count member.cell.start) }
+    ensures { IfSome result (IsLeftByTurns J.told S.held S.failure_count member.cell.start) }
 {
     let (seats, _) = come_back(rt, alloc, back)?;
     member.close(seats)

@@ -7,7 +7,7 @@ ghost use Rattle.boxed_nodes.specs.Sendable.{IsSendableOutput};
 ghost use Rattle.ballot_law.specs.declared.messages.Message.{Message};
 ghost use Rattle.ballot_law.specs.declared.messages.Note.{Note};
 ghost use Rattle.sentinel_runtime.specs.Running.{input_of, phase_of, IsLeftByTurns};
-ghost use Rattle.sentinel_runtime.specs.Hearing.{MayTake};
+ghost use Rattle.sentinel_runtime.specs.Hearing.{HeardWell, MayTake};
 ghost use Rattle.sentinel_runtime.specs.Saying.{IsNoted, IsReleased, IsSaid, MayNote};
 ghost use Rattle.sentinel_runtime.specs.declared.news.TheConstants.{EVENTS_MAX, WAITING_MAX};
 ghost use Rattle.courteous_sessions.specs.Clients.{informed, TakesSome, NotifiesClient};
@@ -91,7 +91,8 @@ pub struct RunningSentinel<J: Which, S: ConfStore> {
     ghost notes: { (note : Note) (number : ℕ) → IsNoted cell.start note number → ∥ J.noted note number ∥₁ },
 }
 
-/// A thread's seat of that Sentinel, with the thread's own room for outputs.
+/// A thread's seat of that Sentinel, with the thread's own room for outputs. All that its calls took the Sentinel may
+/// take.
 #[derive(Drop)]
 pub struct ThreadSeat<J: Which> {
     seat: Seat,
@@ -100,11 +101,13 @@ pub struct ThreadSeat<J: Which> {
     of: PhantomData<J>,
     ghost is: { seat.cell ≡ J.cell },
     ghost held: { outbox.held ≡ [] },
+    ghost heard: { ∥ HeardWell J.told seat.view ∥₁ },
 }
 
 /// A seat with room for outputs that is made as it is needed.
 fn with_outbox<J: Which>(alloc: Global, seat: Seat) -> ThreadSeat<J>
-    requires { seat.cell ≡ J.cell }
+    requires own { seat.cell ≡ J.cell }
+    requires heard { ∥ HeardWell J.told seat.view ∥₁ }
     ensures { result.seat ≡ seat }
 {
     ThreadSeat {
@@ -118,7 +121,8 @@ fn with_outbox<J: Which>(alloc: Global, seat: Seat) -> ThreadSeat<J>
 impl<J: Which> ThreadSeat<J> {
     /// The seat.
     fn into_seat(self) -> Seat
-        ensures { result.cell ≡ J.cell }
+        ensures own { result.cell ≡ J.cell }
+        ensures heard { ∥ HeardWell J.told result.view ∥₁ }
     {
         let ThreadSeat {
             seat,
@@ -154,8 +158,9 @@ impl<J: Which> ThreadSeat<J> {
 }
 
 impl<J: Which, S: ConfStore> RunningSentinel<J, S> {
-    /// The Sentinel at this place of the roster, with its first seat. Its clients come to this port, which so many
-    /// threads serve. What its stored entries release may be said in its name, and told of it.
+    /// The Sentinel at this place of the roster, with its first seat, by which nothing was called yet. Its clients come
+    /// to this port, which so many threads serve. What its stored entries release may be said in its name, and told of
+    /// it.
     pub fn with_seat(
         alloc: Global,
         cell: SharedSentinel<S>,
@@ -167,6 +172,7 @@ impl<J: Which, S: ConfStore> RunningSentinel<J, S> {
     where
         S: Drop,
         requires named { (cell.id ≡ J.cell) × (seat.cell ≡ J.cell) }
+        requires begins { seat.view.front ≡ [] }
         requires says { (message : Message) → IsReleased cell.start message → ∥ J.said message ∥₁ }
         requires notes { (note : Note) (number : ℕ) → IsNoted cell.start note number → ∥ J.noted note number ∥₁ }
         ensures seat { IfOk result (λ r. r.1.seat ≡ seat) }
@@ -228,11 +234,12 @@ impl<J: Which, S: ConfStore> RunningSentinel<J, S> {
     }
 
     /// Ends the sharing, with the seats of all threads, which have ended: the Sentinel and its store, as the history of
-    /// its turns leaves them. None where a seat is missing; the Sentinel and its store are gone then.
+    /// its turns leaves them, in each of which it took what it may take. None where a seat is missing; the Sentinel and
+    /// its store are gone then.
     pub fn close(self, mut seats: Vec<ThreadSeat<J>>) -> Option<Keeper<S>>
     where
         S: Drop,
-        ensures { IfSome result (IsLeftByTurns S.held S.failure_count self.cell.start) }
+        ensures { IfSome result (IsLeftByTurns J.told S.held S.failure_count self.cell.start) }
     {
         let RunningSentinel {
             cell,
@@ -252,7 +259,7 @@ impl<J: Which, S: ConfStore> RunningSentinel<J, S> {
         cell.close(whole).ok()
     }
 
-    /// One input, and how many calls stand before it. The outbox shows what the Sentinel says, once it is stored; at a
+    /// One input that the Sentinel may take, and how many calls stand before it. The outbox shows what the Sentinel says, once it is stored; at a
     /// fault it says nothing.
     fn turn<R: Wait>(
         &self,
@@ -261,6 +268,7 @@ impl<J: Which, S: ConfStore> RunningSentinel<J, S> {
         input: &Input,
     ) -> Result<u64, ActFault>
         requires within { IsWithinEvent input.now.event }
+        requires told { MayTake J.told input.now.event }
         ensures sendable { OnOk result (AllByRecursion IsSendableOutput seat.new.outbox.shown) }
         ensures said { OnOk result (AllByRecursion (IsSaid J.said) seat.new.outbox.shown) }
         ensures noted { IfOk result (λ entry. AllByRecursion (MayNote J.noted entry) seat.new.outbox.shown) }
