@@ -10,12 +10,12 @@ mod log_queue;
 mod node_parts;
 mod opened;
 mod orders;
-mod port_parts;
 mod reboots;
 mod restarts;
 mod shared;
 mod started;
 mod stop_flags;
+mod threads;
 mod watch;
 
 pub use group::{Group, run_group};
