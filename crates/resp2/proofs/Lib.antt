@@ -7,3 +7,4 @@ pub mod PlainLines
 pub mod Streams
 pub mod Switches
 pub mod FramingLemmas
+pub mod LongLemmas
