@@ -24,4 +24,4 @@ pub use framing::{
 };
 pub use laws::law_ask_is_read_again;
 pub use long::{BULK_MAX, HELD_MAX, LongFrames, TOLD_MAX, law_long_values};
-pub use words::{are_bulk, word_of, words_of_items};
+pub use words::{are_bulk, push_words, word_of, words_of_items};

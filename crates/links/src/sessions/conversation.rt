@@ -16,7 +16,7 @@ use crate::sessions::replies::heard_of;
 use ballot_law::{Event, Message, NoMemory, NodeName, RunId};
 use bytes::BytesMut;
 use node_texts::message_text;
-use resp2::{FrameFault, LongFrames, OutText, Value, push_bulk, push_size};
+use resp2::{FrameFault, LongFrames, OutText, Value, push_words};
 use std::alloc::Global;
 use std::collections::VecDeque;
 
@@ -48,17 +48,6 @@ fn add_heard(events: &mut Vec<Event>, heard: Option<Event>) -> Result<(), LinkFa
             Err(_) => Err(LinkFault::NoMemory),
         },
     }
-}
-
-/// Adds an array of these words, each of them a bulk string.
-fn push_words(text: &mut OutText, words: &[&[u8]]) -> Result<(), NoMemory>
-    ensures { OnOk result (text.new ≡ text.old ++ spelling (words_frame (map (λ word. word.now) words.now))) }
-{
-    push_size(text, b'*', words.len())?;
-    for word in words {
-        push_bulk(text, word)?;
-    }
-    Ok(())
 }
 
 /// Adds the commands by which a replica acknowledges at once what it has of its master's stream. Redis answers

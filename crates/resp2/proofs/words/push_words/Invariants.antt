@@ -1,6 +1,6 @@
 use Rattle.std.proofs.Common.{◌≡◌, ◌++◌, take, length}
-use Rattle.node_texts.proofs.MessagesLemmas.Adding.{header, spelled}
-use Rattle.node_texts.proofs.messages.commands.push_words.Given as goal
+use Rattle.resp2.proofs.AddedWords.{header, spelled}
+use Rattle.resp2.proofs.words.push_words.Given as goal
 
 -- the header and the words so far are added
 abbrev pub invariant-loop-word : goal.invariant-loop-word

@@ -2,8 +2,7 @@
 use Rattle.std.proofs.Common.{◌≡◌, ℕ, suc, ◌+◌, ◌<◌, ◌≤◌, Bor, List, [], ◌∷◌, ◌++◌, length, map, take, get_or, refl, sym, ap, ◌∙◌, append_assoc, append-nil, decimal}
 use Rattle.std.proofs.lemmas.List.{take_all, take_more}
 use Rattle.resp2.specs.Commands.{bulks}
-use Rattle.resp2.specs.Framing.Frame.{count, bulk, spelling, spellings, line_end}
-use Rattle.node_texts.specs.Messages.MessageTexts.{words_frame}
+use Rattle.resp2.specs.Framing.Frame.{count, bulk, items, spelling, spellings, line_end}
 
 -- the header of an array
 abbrev pub header : ℕ → List ℕ
@@ -43,5 +42,5 @@ count_is (x ∷ xs) = ap suc (count_is xs)
 
 -- after a header and all words, an array of them
 pub words_added : (old new : List ℕ) (xs : List (Bor (List ℕ))) (i : ℕ) → length xs ≤ i → new ≡ old ++ (header (length xs) ++ spelled (take i xs))
-    → new ≡ old ++ spelling (words_frame (map (λ word. word.now) xs))
+    → new ≡ old ++ spelling (items (bulks (map (λ word. word.now) xs)))
 words_added old new xs i h e = e ∙ ap (λ t. old ++ (header (length xs) ++ spelled t)) (take_all i xs h) ∙ ap (λ n. old ++ (header n ++ spelled xs)) (sym (count_is xs))
