@@ -1,7 +1,6 @@
 //! INFO.
 
 ghost use Rattle.std.specs.Prelude.{◌≡◌, ◌++◌, [], OnOk, codes, decimal};
-ghost use Rattle.resp2.specs.Commands.{word};
 ghost use Rattle.resp2.specs.Framing.Frame as frames;
 ghost use Rattle.resp2.specs.Framing.Frame.{view, spelling, line_end};
 ghost use Rattle.client_commands.specs.Courtesies.{text_of, info_answer};
@@ -15,7 +14,7 @@ use crate::port_facts::Figures;
 use crate::refusals::is_called;
 use ballot_law::{NoMemory, Text};
 use itoa::Buffer;
-use resp2::{OutText, Value, push_bulk};
+use resp2::{OutText, Value, push_bulk, word_of};
 use std::alloc::Global;
 use tokens::run_id_text;
 
@@ -260,16 +259,6 @@ fn add_sections(
     add_text(out, asks_sentinel(words), section)
 }
 
-/// The text of a section; none where the value is no bulk string.
-fn bytes_of(section: &Value) -> &[u8]
-    ensures { result.now ≡ word (view section.now) }
-{
-    match section {
-        Value::Bulk(text) => text.as_slice(),
-        _ => &[],
-    }
-}
-
 /// The answer is the sections that the words ask for.
 fn say_sections(
     alloc: Global,
@@ -302,7 +291,7 @@ pub fn info(
 {
     let words = words_of(alloc, value)?;
     let words = after_first(words.as_slice());
-    say_sections(alloc, words, figures, bytes_of(section), out)
+    say_sections(alloc, words, figures, word_of(section), out)
 }
 
 /// Whether the words of INFO ask for the section of the Sentinel.

@@ -1,6 +1,6 @@
 //! What is answered to the subcommands of SENTINEL that a Sentinel's rules don't know.
 
-ghost use Rattle.std.specs.Prelude.{◌≡◌, ◌*◌, ◌++◌, ◌∷◌, [], OnOk, IfOk, bytes_eq, length, map, decimal};
+ghost use Rattle.std.specs.Prelude.{◌≡◌, ◌≤◌, ◌*◌, ◌++◌, ◌∷◌, [], OnOk, IfOk, bytes_eq, length, map, decimal};
 ghost use Rattle.std.specs.List.{list_any};
 ghost use Rattle.ballot_law.specs.Words.{lower};
 ghost use Rattle.resp2.specs.Framing.Frame as frames;
@@ -90,7 +90,8 @@ fn is_named(name: &[u8], words: &[Text]) -> bool
 
 /// How many masters a word names.
 fn count_named(words: &[Text], masters: &[Watched]) -> usize
-    ensures { result ≡ length (named_masters words.now masters.now) }
+    ensures value { result ≡ length (named_masters words.now masters.now) }
+    ensures within { result ≤ length masters.now }
 {
     let mut count = 0;
     let mut rest = masters;
