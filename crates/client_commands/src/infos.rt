@@ -50,7 +50,7 @@ fn is_told(section: &[u8], words: &[Text]) -> bool
 }
 
 /// Adds a label, its text and the end of the line.
-#[tactic(auto, unfolding(crate::specs::Infos::line))]
+#[tactic(auto, unfolding(crate::specs::Sections::line))]
 fn add_line(out: &mut OutText, label: &[u8], text: &[u8]) -> Result<(), NoMemory>
     ensures { OnOk result (out.new ≡ out.old ++ line label.now text.now) }
 {
@@ -68,7 +68,7 @@ fn add_count_line(out: &mut OutText, label: &[u8], number: u64) -> Result<(), No
 }
 
 /// Adds how the section of a server begins.
-#[tactic(auto, unfolding(crate::specs::Infos::server_front))]
+#[tactic(auto, unfolding(crate::specs::Sections::server_front))]
 fn add_server_front(out: &mut OutText) -> Result<(), NoMemory>
     ensures { OnOk result (out.new ≡ out.old ++ server_front) }
 {
@@ -88,7 +88,7 @@ fn add_server(out: &mut OutText, figures: &Figures) -> Result<(), NoMemory>
 }
 
 /// Adds how the section of clients begins.
-#[tactic(auto, unfolding(crate::specs::Infos::clients_front))]
+#[tactic(auto, unfolding(crate::specs::Sections::clients_front))]
 fn add_clients_front(out: &mut OutText) -> Result<(), NoMemory>
     ensures { OnOk result (out.new ≡ out.old ++ clients_front) }
 {
@@ -106,7 +106,7 @@ fn add_clients(out: &mut OutText, figures: &Figures) -> Result<(), NoMemory>
 }
 
 /// Adds how the section of counts begins.
-#[tactic(auto, unfolding(crate::specs::Infos::stats_front))]
+#[tactic(auto, unfolding(crate::specs::Sections::stats_front))]
 fn add_stats_front(out: &mut OutText) -> Result<(), NoMemory>
     ensures { OnOk result (out.new ≡ out.old ++ stats_front) }
 {
@@ -124,7 +124,7 @@ fn add_stats(out: &mut OutText, figures: &Figures) -> Result<(), NoMemory>
 }
 
 /// Adds how the section of the processor begins.
-#[tactic(auto, unfolding(crate::specs::Infos::cpu_front))]
+#[tactic(auto, unfolding(crate::specs::Sections::cpu_front))]
 fn add_cpu_front(out: &mut OutText) -> Result<(), NoMemory>
     ensures { OnOk result (out.new ≡ out.old ++ cpu_front) }
 {
@@ -140,7 +140,7 @@ fn add_decimal(out: &mut OutText, number: u64) -> Result<(), NoMemory>
 }
 
 /// Adds a label and hundredths of a second, as seconds with six places.
-#[tactic(auto, unfolding(crate::specs::Infos::time_line))]
+#[tactic(auto, unfolding(crate::specs::Sections::time_line))]
 fn add_time_line(out: &mut OutText, label: &[u8], hundredths: u64) -> Result<(), NoMemory>
     ensures { OnOk result (out.new ≡ out.old ++ time_line label.now hundredths) }
 {
