@@ -36,7 +36,7 @@ use Rattle.sentinel_rules.specs.Takes.{next, cleared}
 use Rattle.port_sessions.specs.Talks.{asked, Party, Responds}
 use Rattle.links.specs.declared.sessions.questions.Question.{Question}
 use Rattle.links.specs.Sessions.Links.{question_of, Tells}
-use Rattle.links.specs.Sessions.LongValues.{LinkParts}
+use Rattle.resp2.specs.Long.LongValues.{LongParts}
 
 -- what is asked of another Sentinel: a PING, and whether a master is down
 abbrev pub IsAskable : Body → Type 0
@@ -103,7 +103,7 @@ pub record IsConnected (start : World) (p : Party) (questions : List Body) (even
   pub put_out : bytes ≡ came ++ not_yet_come
   pub replies : List Frame
   pub held : List ℕ
-  pub read : LinkParts came replies held
+  pub read : LongParts came replies held
   pub left : List Question
   pub tells : Tells (SentinelAt start.plan.place) false (map question_of questions) replies events left
 

@@ -7,7 +7,7 @@ use Rattle.links.specs.declared.sessions.questions.Question.{Question}
 use Rattle.links.specs.declared.target.Target.{Target}
 use Rattle.links.specs.NodeLinks.{IsHeardOn}
 use Rattle.links.specs.Sessions.Links.{Tells}
-use Rattle.links.specs.Sessions.LongValues.{LinkParts}
+use Rattle.resp2.specs.Long.LongValues.{LongParts}
 use Rattle.resp2.specs.Framing.Frame.{Frame}
 use Rattle.tcp_transport.specs.Said.{Speaks}
 
@@ -15,7 +15,7 @@ use Rattle.tcp_transport.specs.Said.{Speaks}
 pub record AreTold (target : Target) (asked : List Question) (got : List ℕ) (events : List Event) : Type 0 where
   pub values : List Frame
   pub rest : List ℕ
-  pub parts : LinkParts got values rest
+  pub parts : LongParts got values rest
   pub left : List Question
   pub tells : Tells target.node target.listens asked values events left
 

@@ -10,8 +10,8 @@ ghost use Rattle.links.specs.Speaking.{ack_bytes};
 
 use crate::sessions::conversation::{ASKED_MAX, Conversation};
 use crate::sessions::fault::LinkFault;
-use crate::sessions::long_bulk::HELD_MAX;
 use ballot_law::{Event, Message, NodeName, RunId};
+use resp2::HELD_MAX;
 use std::alloc::Global;
 use std::marker::Model;
 
@@ -27,7 +27,6 @@ pub struct LinkSession {
 impl Model for LinkSession {
     ghost use Rattle.std.specs.Prelude.{◌≡◌};
     ghost use Rattle.resp2.specs.Framing.Stream.{reading, bytes_in};
-    ghost use Rattle.links.specs.Sessions.LongHeld.{held_in, memory_in};
     ghost use Rattle.links.specs.Sessions.Links.{Link};
 
     ghost Value = { Link };
@@ -36,13 +35,13 @@ impl Model for LinkSession {
       node = session.talk.node;
       listens = session.talk.listens;
       asked = session.talk.asked.items;
-      held = bytes_in (held_in session.talk.frames);
-      kept = memory_in session.talk.frames;
+      held = bytes_in session.talk.frames.held;
+      kept = session.talk.frames.memory;
       unsent = session.talk.unsent.items;
       ended = session.fault;
     } };
 
-    ghost invariant = { λ session. held_in session.talk.frames ≡ reading (bytes_in (held_in session.talk.frames)) };
+    ghost invariant = { λ session. session.talk.frames.held ≡ reading (bytes_in session.talk.frames.held) };
 }
 
 impl LinkSession {
