@@ -54,8 +54,8 @@ pub fn words_of_items(alloc: Global, items: &[Value]) -> Result<Vec<Text>, NoMem
     Ok(words)
 }
 
-/// Adds an array of these words, each of them a bulk string. Where they have no room the answer is `NoMemory`: then what
-/// is held begins with what was held.
+/// Adds an array of these words, each of them a bulk string. Where they have no room the answer is `NoMemory`: then
+/// what is held begins with what was held.
 pub fn push_words<S: ByteSink>(sink: &mut S, words: &[&[u8]]) -> Result<(), NoMemory>
     ensures ok { OnOk result (S.bytes sink.new
         ≡ S.bytes sink.old ++ spelling (frames.items (bulks (map (λ word. word.now) words.now)))) }
