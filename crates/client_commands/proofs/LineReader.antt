@@ -1,5 +1,5 @@
 -- What a reader of a stream with lines answers.
-use Rattle.std.proofs.Common.{◌≡◌, ◌∙◌, ℕ, Bool, true, false, Bor, List, drop, Option, Some, None, Result, Ok, Err, refl, sym, true≢false}
+use Rattle.std.proofs.Common.{◌≡◌, ◌∙◌, ℕ, Bool, true, false, List, drop, Option, Some, None, Result, Ok, Err, refl, sym, true≢false}
 use Rattle.std.specs.Prelude.{IfSome}
 use Rattle.ballot_law.specs.declared.commands.Command.{Command}
 use Rattle.resp2.specs.Asked.{Asks, Found}
@@ -56,11 +56,6 @@ found_taken bytes rest command false begins h =
 
 pub common_found : (bytes rest : List ℕ) (command : Command) → Found bytes (Ok command) rest → TakesCommon (reading bytes) (reading rest) command
 common_found bytes rest command h = found_taken bytes rest command (begins_line bytes) refl h
-
-pub maybe_common_found : (bytes : List ℕ) (given : Option (Command × Bor (List ℕ))) → IfSome given (λ x. Found bytes (Ok x.0) x.1.now)
-    → IfSome given (λ x. TakesCommon (reading bytes) (reading x.1.now) x.0)
-maybe_common_found bytes (Some x) h = common_found bytes x.1.now x.0 h
-maybe_common_found bytes None h = tt
 
 -- a line that is none is at fault in RESP2
 pub broken_answered : (before after : Held) (answer : Result (Option Value) FrameFault) → begins_line (bytes_in before) ≡ true → IsFound Broken (bytes_in before)

@@ -5,6 +5,7 @@ use Rattle.ballot_law.specs.declared.commands.Command.{Command}
 use Rattle.ballot_law.specs.declared.commands.Command.TheVariants.{Masters, Master, Replicas, Sentinels, CkQuorum}
 use Rattle.ballot_law.specs.Rosters.{MasterPlan, Roster}
 use Rattle.ballot_law.specs.Words.{lower, canonical_within, ip_text}
+use Rattle.pubsub.specs.Answering.{wrong_arguments}
 use Rattle.pubsub.specs.Globs.{matches}
 use Rattle.resp2.specs.declared.command.CommandFault.{CommandFault}
 use Rattle.resp2.specs.declared.command.CommandFault.TheVariants.{UnknownCommand, WrongArguments}
@@ -29,7 +30,7 @@ use Rattle.client_commands.specs.Subcommands.{sub_name, all_subs, sub_among, tak
 use Rattle.client_commands.specs.Rows.{families}
 use Rattle.client_commands.specs.Tables.{table, command_info, command_docs, command_list}
 use Rattle.client_commands.specs.Helps.{told_lines, sentinel_help, client_help, command_help}
-use Rattle.client_commands.specs.Refusals.{is_called, printed_byte, wrong_arguments, unknown_subcommand, unknown_command, syntax_error, wrong_password, no_password, no_auth, no_auth_yet, no_name, no_such_protocol, no_protocol, no_option, no_hello, not_while_listening}
+use Rattle.client_commands.specs.Refusals.{is_called, printed_byte, unknown_subcommand, unknown_command, syntax_error, wrong_password, no_password, no_auth, no_auth_yet, no_name, no_such_protocol, no_protocol, no_option, no_hello, not_while_listening}
 
 -- what is known of a connection: its number, the name that its client gave it, which protocol it speaks, whether it listens and so has no other commands, the password
 -- that is wanted of its client, where one is, and whether the client gave it; the Sentinel's current epoch as it was last told, where that was; and what its port knows

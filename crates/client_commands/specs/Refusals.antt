@@ -16,10 +16,6 @@ printed_byte b = elim ((b == 13) || (b == 10)) [ true ↦ 32 | false ↦ b ]
 abbrev pub printed : ℕ → List ℕ → List ℕ
 printed count word = map printed_byte (take count word)
 
--- the command with this name has another number of words
-abbrev pub wrong_arguments : List ℕ → Frame
-wrong_arguments name = fault (codes "ERR wrong number of arguments for '" ++ (name ++ codes "' command"))
-
 -- of a command that has subcommands none is called so; `help` names the one that lists them
 abbrev pub unknown_subcommand : (help word : List ℕ) → Frame
 unknown_subcommand help word = fault (codes "ERR unknown subcommand '" ++ (printed 128 word ++ (codes "'. Try " ++ help)))

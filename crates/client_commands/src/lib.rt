@@ -44,6 +44,5 @@ pub use laws::{
     law_answers_are_values, law_lines_stay, law_nothing_is_answered_to_nothing,
     law_own_values_are_left, law_strangers_reach_nothing, law_values_are_spelled_or_lines,
 };
-pub use lines::common_in;
 pub use port_facts::{ClientEntry, Figures, PortFacts};
 pub use protocols::Protocol;

@@ -6,7 +6,7 @@ ghost use Rattle.resp2.specs.Asked.{IsCommon};
 ghost use Rattle.ballot_law.specs.Limits.{IsWithin};
 ghost use Rattle.resp2.specs.Framing.Frame.{view, spelling, HasLines};
 ghost use Rattle.resp2.specs.Framing.Stream as streams;
-ghost use Rattle.resp2.specs.Framing.Stream.{reading, held_size, bytes_in};
+ghost use Rattle.resp2.specs.Framing.Stream.{held_size, bytes_in};
 ghost use Rattle.client_commands.specs.Attendants.{TakesCommon};
 ghost use Rattle.client_commands.specs.Lines.{array_of, is_web, command_in, command_of_line, is_kind, begins_line, line_size, IsFound, Answers};
 
@@ -207,18 +207,4 @@ fn take_common(frames: &mut Frames) -> Option<Command>
     ensures left { result ≡ None → frames.new ≡ frames.old }
 {
     resp2::next_common(frames)
-}
-
-/// The command with which these bytes of a client's stream begin, and what stands behind it, where it is one that is
-/// read where it stands: PING, a question for the address of a master or the question whether a master is down, in a
-/// spelling that `resp2::common_in` takes. A reader that holds nothing takes it from a piece that begins so, and the
-/// rest of the piece is what comes next. `None` tells nothing of the bytes. No memory is taken.
-pub fn common_in(bytes: &[u8]) -> Option<(Command, &[u8])>
-    ensures taken { IfSome result (λ x. TakesCommon (reading bytes.now) (reading x.1.now) x.0) }
-    ensures common { IfSome result (λ x. IsCommon x.0) }
-    ensures within { IfSome result (λ x. IsWithin x.0) }
-    // With each command fewer bytes are left.
-    ensures shorter { IfSome result (λ x. length x.1.now < length bytes.now) }
-{
-    resp2::common_in(bytes)
 }

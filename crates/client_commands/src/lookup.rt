@@ -3,16 +3,16 @@
 ghost use Rattle.std.specs.Prelude.{◌≡◌, ◌++◌, ◌∷◌, IfOk, OnOk, option_map, map, codes};
 ghost use Rattle.ballot_law.specs.Words.{lower};
 ghost use Rattle.resp2.specs.Framing.Frame.{spelling};
-ghost use Rattle.client_commands.specs.Refusals.{printed_byte, wrong_arguments};
+ghost use Rattle.pubsub.specs.Answering.{wrong_arguments};
+ghost use Rattle.client_commands.specs.Refusals.{printed_byte};
 ghost use Rattle.client_commands.specs.Courtesies.{found, text_after, taken, clients_named, client_named, client, command, subcommand, sentinel, other_named, looked_up};
 ghost use Rattle.client_commands.specs.Subcommands.{all_subs, sub_among};
 
-use crate::refusals::{
-    is_called, printed_byte, refuse_arguments, refuse_command, refuse_subcommand,
-};
+use crate::refusals::{is_called, printed_byte, refuse_command, refuse_subcommand};
 use crate::subcommands::sub_named;
 use crate::verbs::Verb;
 use ballot_law::{NoMemory, Text};
+use pubsub::say_wrong_arguments;
 use resp2::OutText;
 
 /// The command, where it has as many words as it takes.
@@ -28,7 +28,7 @@ fn taken<'a>(
     if fits {
         return Ok(Some((verb, words)));
     }
-    refuse_arguments(out, verb.name())?;
+    say_wrong_arguments(out, verb.name())?;
     Ok(None)
 }
 
@@ -93,7 +93,7 @@ fn client<'a>(words: &'a [Text], out: &mut OutText) -> Result<Option<(Verb, &'a 
     ensures text { OnOk result (out.new ≡ text_after out.old (client words.now)) }
 {
     let Some((word, more)) = words.split_first() else {
-        refuse_arguments(out, b"client")?;
+        say_wrong_arguments(out, b"client")?;
         return Ok(None);
     };
     client_named(word.as_slice(), more, out)
@@ -197,7 +197,7 @@ fn sentinel<'a>(
 {
     match words {
         [] => {
-            refuse_arguments(out, b"sentinel")?;
+            say_wrong_arguments(out, b"sentinel")?;
             Ok(None)
         }
         [word, more @ ..] => sentinel_of(miscounted, word.as_slice(), more, out),
@@ -227,7 +227,7 @@ fn other_named<'a>(
         return sentinel(miscounted, words, out);
     }
     if is_called(b"subscribe", name) {
-        refuse_arguments(out, b"subscribe")?;
+        say_wrong_arguments(out, b"subscribe")?;
     } else {
         refuse_command(out, name, words)?;
     }

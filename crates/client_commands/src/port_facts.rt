@@ -71,7 +71,7 @@ pub struct ClientEntry {
     pub protocol: Protocol,
     /// The clock's reading when it came, in milliseconds.
     pub came: u64,
-    /// The clock's reading when its last bytes came.
+    /// The clock's reading when its last bytes came, in milliseconds.
     pub heard: u64,
     /// To how many channels it listens.
     pub channels: u32,

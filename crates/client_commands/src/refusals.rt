@@ -2,7 +2,7 @@
 
 ghost use Rattle.std.specs.Prelude.{◌≡◌, ◌++◌, OnOk, map, length, take};
 ghost use Rattle.resp2.specs.Framing.Frame.{fault, spelling};
-ghost use Rattle.client_commands.specs.Refusals.{is_called, printed_byte, printed, wrong_arguments, unknown_subcommand, shown_words, unknown_command, no_option, not_while_listening, quote_end};
+ghost use Rattle.client_commands.specs.Refusals.{is_called, printed_byte, printed, unknown_subcommand, shown_words, unknown_command, no_option, not_while_listening, quote_end};
 
 use ballot_law::{NoMemory, Text};
 use resp2::OutText;
@@ -86,18 +86,6 @@ fn add_shown(
     out.add(before)?;
     add_printed(out, first_of(word, count))?;
     out.add(after)
-}
-
-/// The command with this name has another number of words.
-pub(crate) fn refuse_arguments(out: &mut OutText, name: &[u8]) -> Result<(), NoMemory>
-    ensures { OnOk result (out.new ≡ spelling (wrong_arguments name.now)) }
-{
-    say_fault(
-        out,
-        b"ERR wrong number of arguments for '",
-        name,
-        b"' command",
-    )
 }
 
 /// A connection that listens is told so at the command with this name.

@@ -12,7 +12,7 @@ use Rattle.links.specs.declared.sessions.fault.LinkFault.TheVariants.{Strange}
 use Rattle.links.specs.declared.sessions.questions.Question.{Question}
 use Rattle.links.specs.declared.sessions.questions.Question.TheVariants as asks
 use Rattle.links.specs.declared.sessions.replies.Vote.{Vote}
-use Rattle.links.specs.Sessions.LongValues.{told_value}
+use Rattle.resp2.specs.Long.LongValues.{told_value}
 use Rattle.links.specs.Sessions.Links.{next_asked, heard_of, ping_heard, info_heard, answered, ask_heard, hand_over_heard, named, id_heard, vote_of, hello_in, hello_in_list, hello_of_list, hello_heard, is_confirmed, begins_message, list_of, listed, Tells}
 use Rattle.links.specs.declared.target.Target.{Target}
 use Rattle.links.specs.NodeLinks.{IsHeardOn, IsAsked}

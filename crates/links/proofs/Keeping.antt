@@ -8,7 +8,7 @@ use Rattle.ballot_law.specs.declared.messages.Body.{Body}
 use Rattle.ballot_law.specs.declared.messages.Body.TheVariants as bodies
 use Rattle.ballot_law.specs.declared.messages.NodeName.{NodeName}
 use Rattle.links.specs.declared.sessions.conversation.TheConstants.{ASKED_MAX}
-use Rattle.links.specs.declared.sessions.long_bulk.TheConstants.{HELD_MAX}
+use Rattle.resp2.specs.declared.long.long_bulk.TheConstants.{HELD_MAX}
 use Rattle.links.specs.declared.sessions.questions.Question.{Question}
 use Rattle.links.specs.declared.sessions.questions.Question.TheVariants as asks
 use Rattle.links.specs.declared.sessions.fault.LinkFault.{LinkFault}

@@ -1,9 +1,3 @@
-pub mod Adding
 pub mod Counts
-pub mod Lines
-pub mod Passing
-pub mod Headers
-pub mod Values
-pub mod Going
 pub mod Joining
 pub mod Stepping

@@ -5,8 +5,10 @@ use Rattle.ballot_law.specs.declared.events.Event.{Event}
 use Rattle.ballot_law.specs.declared.events.Event.TheVariants.{Answered, Pinged, InfoRead, HelloRead, Refused}
 use Rattle.ballot_law.specs.declared.messages.Body.{Body}
 use Rattle.ballot_law.specs.declared.messages.Body.TheVariants.{Ping, InfoAsk}
+use Rattle.ballot_law.specs.declared.messages.NodeName.{NodeName}
+use Rattle.ballot_law.specs.declared.messages.NodeName.TheVariants.{StoreAt}
 use Rattle.links.specs.declared.sessions.conversation.TheConstants.{ASKED_MAX}
-use Rattle.links.specs.declared.sessions.long_bulk.TheConstants.{HELD_MAX}
+use Rattle.resp2.specs.declared.long.long_bulk.TheConstants.{HELD_MAX}
 use Rattle.links.specs.declared.sessions.questions.Question.{Question}
 use Rattle.links.specs.declared.sessions.questions.Question.TheVariants as asks
 use Rattle.links.specs.Sessions.Links.{Link}
@@ -66,20 +68,24 @@ ack_asked_at now state = record {
   talk = record state.talk { unsent = state.talk.unsent ++ ack_bytes; asked = state.talk.asked ++ asks.Order ∷ [] };
 }
 
--- a question that it asks by itself: a PING, or for INFO
-abbrev pub IsOwn : Body → Type 0
-IsOwn Ping = Unit {0}
-IsOwn InfoAsk = Unit {0}
-IsOwn body = ⊥
+abbrev pub IsDataNode : NodeName → Type 0
+IsDataNode (StoreAt number) = Unit {0}
+IsDataNode node = ⊥
+
+-- a question that it asks this node by itself: a PING, or a data node for INFO
+abbrev pub IsOwn : NodeName → Body → Type 0
+IsOwn node Ping = Unit {0}
+IsOwn node InfoAsk = IsDataNode node
+IsOwn node body = ⊥
 
 -- messages join what is unsent, in their order
 abbrev pub put_all : List Body → Link → Link
 put_all [] talk = talk
 put_all (body ∷ bodies) talk = put_all bodies (record talk { unsent = talk.unsent ++ bytes_for body; asked = talk.asked ++ questions_for body })
 
--- what it asks by itself, and nothing else, joins what is unsent
-abbrev pub AsksByItself : (old new : Link) → Type 0
-AsksByItself old new = (bodies : List Body) × AllByRecursion IsOwn bodies × (new ≡ put_all bodies old)
+-- what it asks this node by itself, and nothing else, joins what is unsent
+abbrev pub AsksByItself : NodeName → (old new : Link) → Type 0
+AsksByItself node old new = (bodies : List Body) × AllByRecursion (IsOwn node) bodies × (new ≡ put_all bodies old)
 
 -- what may be heard on it: answers of its node, and hellos where it listens
 abbrev pub IsHeardOn : Target → Event → Type 0

@@ -36,8 +36,7 @@ pub use recent_faults::RecentFaults;
 pub use refusals::{is_refusal, wants_login};
 pub use schedule::{Schedule, Stage, Stale, ping_each};
 pub use sessions::{
-    ASKED_MAX, BULK_MAX, HELD_MAX, LinkFault, LinkSession, Question, TOLD_MAX, Vote,
-    law_long_values, law_pieces_join, question_of,
+    ASKED_MAX, LinkFault, LinkSession, Question, Vote, law_pieces_join, question_of,
 };
 pub use silence_timer::SilenceTimer;
 pub use speaking::Login;

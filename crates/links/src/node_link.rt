@@ -22,7 +22,8 @@ use std::marker::Model;
 
 /// A connection to a node, or the wish for one: its times, and what is asked, held and unsent on it. Its owner has the
 /// socket, opens that where `open` did, and drops it where the connection is closed. A fault closes it, and all that
-/// was on it is lost.
+/// was on it is lost. What puts something out has the fault `Full`, where more than `UNSENT_MAX` bytes would be unsent
+/// or more than `ASKED_MAX` questions would wait, or `NoMemory`. Each `now` is a reading of one clock in milliseconds.
 #[derive(Drop)]
 pub struct NodeLink {
     target: Target,
@@ -247,7 +248,7 @@ impl NodeLink {
         requires { IsWritable body }
         ensures shut { self.old.schedule.stage ≢ Open → self.new ≡ self.old }
         ensures ok { OnOk result (self.old.schedule.stage ≡ Open → self.new ≡ asked_at now body self.old) }
-        ensures alone { IsOwn body → OnOk result (AsksByItself self.old.talk self.new.talk) }
+        ensures alone { IsOwn self.old.target.node body → OnOk result (AsksByItself self.old.target.node self.old.talk self.new.talk) }
         ensures err { OnErr result (self.new ≡ closed_at now self.old) }
         ensures target { self.new.target ≡ self.old.target }
     {
@@ -267,7 +268,7 @@ impl NodeLink {
         ensures listens { self.old.target.listens ≡ true → self.new.talk ≡ self.old.talk }
         ensures asked { OnOk result (self.old.target.listens ≡ false → self.old.schedule.stage ≡ Open
             → self.new.talk ≡ (asked_at now Body.Ping self.old).talk) }
-        ensures alone { OnOk result (AsksByItself self.old.talk self.new.talk) }
+        ensures alone { OnOk result (AsksByItself self.old.target.node self.old.talk self.new.talk) }
         ensures err { OnErr result (self.new.talk ≡ fresh self.old.target) }
         ensures target { self.new.target ≡ self.old.target }
     {
@@ -282,13 +283,13 @@ impl NodeLink {
 
     /// Asks for INFO, where it is open, takes messages, and is to a data node: so it is known at once what came of an
     /// order. A fault closes it.
-    #[tactic(auto, using(crate::proofs::Asking::asks_nothing))]
+    #[tactic(auto, using(crate::proofs::Asking::asks_nothing, crate::proofs::Asking::is_data_node))]
     pub fn look(&mut self, now: u64) -> Result<(), LinkFault>
         ensures listens { self.old.target.listens ≡ true → self.new ≡ self.old }
         ensures shut { self.old.schedule.stage ≢ Open → self.new ≡ self.old }
         ensures asked { OnOk result (self.old.target.listens ≡ false → self.old.schedule.stage ≡ Open
             → (number : ℕ) → self.old.target.node ≡ StoreAt number → self.new ≡ asked_at now Body.InfoAsk self.old) }
-        ensures alone { OnOk result (AsksByItself self.old.talk self.new.talk) }
+        ensures alone { OnOk result (AsksByItself self.old.target.node self.old.talk self.new.talk) }
         ensures err { OnErr result (self.new ≡ closed_at now self.old) }
         ensures target { self.new.target ≡ self.old.target }
     {
@@ -353,7 +354,7 @@ impl NodeLink {
 
     /// Asks for INFO by itself, where it is open, takes messages, and is to a data node. A fault closes it.
     fn ask_info(&mut self, now: u64) -> Result<(), LinkFault>
-        ensures alone { OnOk result (AsksByItself self.old.talk self.new.talk) }
+        ensures alone { OnOk result (AsksByItself self.old.target.node self.old.talk self.new.talk) }
         ensures err { OnErr result (self.new.talk ≡ fresh self.old.target) }
         ensures target { self.new.target ≡ self.old.target }
     {
@@ -365,7 +366,7 @@ impl NodeLink {
     /// Sends the PING, where it is due. A fault closes it.
     #[tactic(auto, using(crate::proofs::Asking::asks_nothing))]
     fn ping_due(&mut self, now: u64) -> Result<(), LinkFault>
-        ensures alone { OnOk result (AsksByItself self.old.talk self.new.talk) }
+        ensures alone { OnOk result (AsksByItself self.old.target.node self.old.talk self.new.talk) }
         ensures err { OnErr result (self.new.talk ≡ fresh self.old.target) }
         ensures target { self.new.target ≡ self.old.target }
     {
@@ -378,7 +379,7 @@ impl NodeLink {
     /// Asks for INFO by itself, where it is due. A fault closes it.
     #[tactic(auto, using(crate::proofs::Asking::asks_nothing))]
     fn info_due(&mut self, now: u64) -> Result<(), LinkFault>
-        ensures alone { OnOk result (AsksByItself self.old.talk self.new.talk) }
+        ensures alone { OnOk result (AsksByItself self.old.target.node self.old.talk self.new.talk) }
         ensures err { OnErr result (self.new.talk ≡ fresh self.old.target) }
         ensures target { self.new.target ≡ self.old.target }
     {
@@ -389,9 +390,8 @@ impl NodeLink {
     }
 
     /// Sends the PING and the INFO that are due, and nothing else. A fault closes it.
-    #[tactic(auto, using(crate::proofs::Asking::asks_then))]
     pub fn ask_due(&mut self, now: u64) -> Result<(), LinkFault>
-        ensures alone { OnOk result (AsksByItself self.old.talk self.new.talk) }
+        ensures alone { OnOk result (AsksByItself self.old.target.node self.old.talk self.new.talk) }
         ensures err { OnErr result (self.new.talk ≡ fresh self.old.target) }
         ensures target { self.new.target ≡ self.old.target }
     {

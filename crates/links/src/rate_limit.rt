@@ -4,8 +4,8 @@ ghost use Rattle.std.specs.Prelude.{◌≡◌, ◌≤◌, ◌<◌, ◌↔◌, �
 
 use crate::times::FLOW_MS;
 
-/// How many hellos and answers may come on a connection in that time. Sixty-four Sentinels publish some forty hellos in
-/// it; a node that passes on more is shut off for as long.
+/// How many hellos and answers may come on a connection within `FLOW_MS`. Sixty-four Sentinels publish some forty
+/// hellos in that time; a node that passes on more is shut off for as long.
 pub const FLOW_MAX: u64 = 512;
 
 /// How many hellos and answers came on a connection since a reading of the clock in milliseconds.

@@ -47,8 +47,8 @@ pub struct Schedule {
     pub infos: u64,
 }
 
-/// How long it is between two PINGs to a node that is down after a silence of so many milliseconds: an eighth of that,
-/// so that a pause of the node's own machine is seldom taken for one, and within the limits.
+/// How many milliseconds it is between two PINGs to a node that is down after a silence of so many: an eighth of that,
+/// so that a pause of the node's own machine is seldom taken for one, and from `PING_MIN_MS` to `PING_MAX_MS`.
 pub fn ping_each(down_after: u64) -> u64
     ensures { result ≡ min (max (down_after / PINGS) PING_MIN_MS) PING_MAX_MS }
 {
@@ -144,7 +144,7 @@ impl Schedule {
     }
 
     /// It is closed from now on. Where nothing was heard since it was last closed, the pause is twice as long as the
-    /// last one.
+    /// last one, and in any case from `PAUSE_MIN_MS` to `PAUSE_MAX_MS`.
     pub fn close(&mut self, now: u64)
         ensures { self.new ≡ closed now self.old }
     {
@@ -164,8 +164,8 @@ impl Schedule {
         self.pause = 0;
     }
 
-    /// Whether it is open, and has been for so long that its node counts as a good one: where such a connection ends,
-    /// it is opened again at once.
+    /// Whether it is open, and has been for `LASTING_MS`, so that its node counts as a good one: where such a
+    /// connection ends, it is opened again at once.
     pub fn is_lasting(&self, now: u64) -> bool
         ensures { IsTrue result ↔ ((self.now.stage ≡ Open) × (LASTING_MS ≤ now - self.now.since)) }
     {

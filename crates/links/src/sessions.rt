@@ -14,20 +14,15 @@
 //! ```
 
 mod conversation;
-mod end;
 mod fault;
-mod header;
 mod laws;
 mod link_session;
-mod long_bulk;
-mod long_frames;
 mod questions;
 mod replies;
 
 pub use conversation::ASKED_MAX;
 pub use fault::LinkFault;
-pub use laws::{law_long_values, law_pieces_join};
+pub use laws::law_pieces_join;
 pub use link_session::LinkSession;
-pub use long_bulk::{BULK_MAX, HELD_MAX, TOLD_MAX};
 pub use questions::{Question, question_of};
 pub use replies::Vote;

@@ -15,7 +15,8 @@ pub struct TickSchedule {
     pub tick_due: u64,
 }
 
-/// Whether too long a time lies between two turns, by readings of one clock: then nobody else was silent meanwhile.
+/// Whether too long a time lies between two turns, by readings of one clock in milliseconds: more than `GAP_MS`. Then
+/// nobody else was silent meanwhile.
 pub fn is_gap(turned: u64, now: u64) -> bool
     ensures { IsTrue result ↔ (GAP_MS < now - turned) }
 {
@@ -31,8 +32,8 @@ fn slot_of(turns: u64) -> u64
     (HOLD_MAX_MS / turns).min(SLOT_MAX_MS)
 }
 
-/// Which turn the Sentinel at this place has, of so many: turns go by the places in the roster, and a campaign's number
-/// moves them on. So Sentinels that know the same number have different turns.
+/// Which turn the Sentinel at this place has, of so many, counted from 0: turns go by the places in the roster, and a
+/// campaign's number moves them on. So Sentinels that know the same number have different turns.
 pub fn turn_of(place: u16, number: u64, turns: u64) -> u64
     requires some { 0 < turns }
     requires few { turns ≤ 64 }
@@ -42,9 +43,9 @@ pub fn turn_of(place: u16, number: u64, turns: u64) -> u64
     (u64::from(place) + number % turns) % turns
 }
 
-/// For how long a Sentinel holds its ticks back whose turn to begin a campaign is this one of so many: so those that
-/// find a master down together begin one after the other, and who begins first has the votes of the others. Half of
-/// each turn goes by lot.
+/// For how many milliseconds a Sentinel holds its ticks back whose turn to begin a campaign is this one of so many, at
+/// most `HOLD_MAX_MS`: so those that find a master down together begin one after the other, and who begins first has
+/// the votes of the others. Half of each turn goes by lot.
 pub fn pause_of(turn: u64, turns: u64, lot: u64) -> u64
     requires { turn < turns }
     ensures turn { turn * min SLOT_MAX_MS (HOLD_MAX_MS / turns) ≤ result }
@@ -67,7 +68,7 @@ impl TickSchedule {
         }
     }
 
-    /// Whether too long a time lies between the last turn and now: then nobody else was silent meanwhile.
+    /// Whether more than `GAP_MS` lie between the last turn and now: then nobody else was silent meanwhile.
     pub fn stood_still(&self, now: u64) -> bool
         ensures { IsTrue result ↔ (GAP_MS < now - self.now.turned) }
     {
@@ -81,9 +82,9 @@ impl TickSchedule {
         self.tick_due.saturating_sub(now)
     }
 
-    /// Whether the ticks are due, and the last ones long ago: then nothing is to be heard before them that may be
-    /// stored, since a store takes long on a slow disk, and at 2,000 ms between two ticks the Sentinel would take its
-    /// clock to have leapt.
+    /// Whether the ticks are due, and the last ones more than `LATE_MS` ago: then nothing is to be heard before them
+    /// that may be stored, since a store takes long on a slow disk, and at 2,000 ms between two ticks the Sentinel
+    /// would take its clock to have leapt.
     pub fn is_late(&self, now: u64) -> bool
         ensures { IsTrue result ↔ ((self.now.tick_due ≤ now) × (LATE_MS < now - self.now.ticked)) }
     {
@@ -108,8 +109,8 @@ impl TickSchedule {
         self.ticked = now;
     }
 
-    /// A switch is under way that a client asked for: the next ticks are due soon after those that began at this
-    /// reading.
+    /// A switch is under way that a client asked for: the next ticks are due at most `HURRY_MS` after those that began
+    /// at this reading.
     pub fn hurry(&mut self, now: u64)
         ensures soon { now + HURRY_MS < 2 ^ 64 → self.new.tick_due ≡ min self.old.tick_due (now + HURRY_MS) }
         ensures turned { (self.new.turned ≡ self.old.turned) × (self.new.ticked ≡ self.old.ticked) }
@@ -117,8 +118,8 @@ impl TickSchedule {
         self.tick_due = self.tick_due.min(now.saturating_add(HURRY_MS));
     }
 
-    /// A campaign is near: the next ticks are held back for so long from now. What is due later stays so, and no ticks
-    /// come to be more than 1,200 ms apart by it.
+    /// A campaign is near: the next ticks are held back for so many milliseconds from now. What is due later stays so,
+    /// and no ticks come to be more than 1,200 ms apart by it.
     pub fn hold(&mut self, now: u64, pause: u64)
         ensures later { self.old.tick_due ≤ self.new.tick_due }
         ensures soon { now + pause < 2 ^ 64 → self.new.tick_due ≤ max self.old.tick_due (now + pause) }

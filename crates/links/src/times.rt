@@ -11,18 +11,20 @@ pub const SILENT_MS: u64 = 2_000;
 /// How long nothing may come on a connection that listens to hellos, in milliseconds.
 pub const NO_HELLO_MS: u64 = 6_000;
 
-/// The shortest and the longest pause before a connection is opened again, in milliseconds.
+/// The shortest pause before a connection is opened again, in milliseconds.
 pub const PAUSE_MIN_MS: u64 = 100;
 
+/// The longest pause before a connection is opened again, in milliseconds.
 pub const PAUSE_MAX_MS: u64 = 500;
 
 /// For how long a connection has to be open to be opened again at once where its node ends it, in milliseconds: as at
 /// CLIENT KILL, after which hellos would be missed.
 pub const LASTING_MS: u64 = 2_000;
 
-/// The shortest and the longest time between two PINGs that a connection sends, in milliseconds.
+/// The shortest time between two PINGs that a connection sends, in milliseconds.
 pub const PING_MIN_MS: u64 = 250;
 
+/// The longest time between two PINGs that a connection sends, in milliseconds.
 pub const PING_MAX_MS: u64 = 1_000;
 
 /// How many PINGs a connection sends in the time after which its node would be down, within these limits.
@@ -68,9 +70,10 @@ pub const ROW_EACH_MS: u64 = 10_000;
 /// How long may lie between two turns before this Sentinel takes itself to have stood still, in milliseconds.
 pub const GAP_MS: u64 = 300;
 
-/// The shortest and the longest time between two ticks, in milliseconds.
+/// The shortest time between two ticks, in milliseconds.
 pub const TICK_MIN_MS: u64 = 50;
 
+/// The longest time between two ticks, in milliseconds.
 pub const TICK_MAX_MS: u64 = 100;
 
 /// The longest time between two ticks while a switch is under way that a client asked for, in milliseconds.

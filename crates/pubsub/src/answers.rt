@@ -43,8 +43,9 @@ fn say_refusal(out: &mut OutText, text: &[u8]) -> Result<(), NoMemory>
     out.add(b"\r\n")
 }
 
-/// The command with this name has another number of words.
-fn say_wrong_arguments(out: &mut OutText, name: &[u8]) -> Result<(), NoMemory>
+/// The answer is that the command with this name has another number of words. `NoMemory`: memory was refused, and what
+/// `out` then holds isn't told.
+pub fn say_wrong_arguments(out: &mut OutText, name: &[u8]) -> Result<(), NoMemory>
     ensures { OnOk result (out.new ≡ spelling (wrong_arguments name.now)) }
 {
     say_fault(

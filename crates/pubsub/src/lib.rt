@@ -21,7 +21,7 @@ mod telling;
 mod verb;
 mod words_in;
 
-pub use answers::Turn;
+pub use answers::{Turn, say_wrong_arguments};
 pub use channel::{Channel, Event};
 pub use fault::ChannelFault;
 pub use globs::is_match;

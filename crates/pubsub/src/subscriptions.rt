@@ -71,7 +71,7 @@ impl Subscriptions {
         self.patterns.as_slice()
     }
 
-    /// How many channels and patterns there are together.
+    /// How many channels and patterns there are together: at most twice `NAMES_MAX`.
     pub fn count(&self) -> usize
         ensures { result ≡ count self.now }
     {

@@ -4,6 +4,8 @@ pub mod AskFrames
 pub mod Asks
 pub mod Found
 pub mod PlainLines
+pub mod AddedWords
 pub mod Streams
 pub mod Switches
 pub mod FramingLemmas
+pub mod LongLemmas

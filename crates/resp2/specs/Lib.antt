@@ -1,3 +1,4 @@
 pub mod Commands
 pub mod Asked
 pub mod Framing
+pub mod Long

@@ -59,8 +59,8 @@ pub fn next_common(frames: &mut Frames) -> Option<Command>
     }
 }
 
-/// The command with which these bytes begin, and what stands behind it, where it is one that `next_common` takes. `None`
-/// tells nothing of the bytes. No memory is taken.
+/// The command with which these bytes begin, and what stands behind it, where it is one that `next_common` takes.
+/// `None` tells nothing of the bytes. No memory is taken.
 pub fn common_in(bytes: &[u8]) -> Option<(Command, &[u8])>
     ensures found { IfSome result (λ x. Found bytes.now (Ok x.0) x.1.now) }
     ensures within { IfSome result (λ x. IsWithin x.0) }

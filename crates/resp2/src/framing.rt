@@ -24,6 +24,7 @@ pub use laws::{
 };
 pub use out_text::OutText;
 pub use pieces::values_of_pieces;
+pub(crate) use reading::line_length;
 pub use sink::{ByteSink, push_bulk, push_int, push_kind, push_line, push_size};
 pub use value::Value;
 pub use writing::write_value;

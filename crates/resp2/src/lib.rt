@@ -11,6 +11,7 @@ mod command;
 mod command_stream;
 mod framing;
 mod laws;
+mod long;
 mod words;
 
 pub use command::{CommandFault, command_of, redis_command_of};
@@ -22,4 +23,5 @@ pub use framing::{
     values_of_pieces, write_value,
 };
 pub use laws::law_ask_is_read_again;
-pub use words::{are_bulk, word_of, words_of_items};
+pub use long::{BULK_MAX, HELD_MAX, LongFrames, TOLD_MAX, law_long_values};
+pub use words::{are_bulk, push_words, word_of, words_of_items};

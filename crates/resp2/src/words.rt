@@ -1,10 +1,13 @@
-//! The words of a command, as its value has them.
+//! The words of a command, as its value has them, and as they are written.
 
-ghost use Rattle.std.specs.Prelude.{◌≡◌, IfOk};
+ghost use Rattle.std.specs.Prelude.{◌≡◌, ◌++◌, map, IfOk, OnOk, OnErr};
 ghost use Rattle.resp2.specs.Commands as commands;
-ghost use Rattle.resp2.specs.Framing.Frame.{view, frames_view};
+ghost use Rattle.resp2.specs.Commands.{bulks};
+ghost use Rattle.resp2.specs.Framing.Frame as frames;
+ghost use Rattle.resp2.specs.Framing.Frame.{view, frames_view, spelling};
+ghost use Rattle.resp2.specs.Framing.Writing.{Begins};
 
-use crate::framing::Value;
+use crate::framing::{ByteSink, Value, push_bulk, push_size};
 use ballot_law::{NoMemory, Text};
 use std::alloc::Global;
 
@@ -49,4 +52,18 @@ pub fn words_of_items(alloc: Global, items: &[Value]) -> Result<Vec<Text>, NoMem
         rest = more;
     }
     Ok(words)
+}
+
+/// Adds an array of these words, each of them a bulk string. Where they have no room the answer is `NoMemory`: then
+/// what is held begins with what was held.
+pub fn push_words<S: ByteSink>(sink: &mut S, words: &[&[u8]]) -> Result<(), NoMemory>
+    ensures ok { OnOk result (S.bytes sink.new
+        ≡ S.bytes sink.old ++ spelling (frames.items (bulks (map (λ word. word.now) words.now)))) }
+    ensures err { OnErr result (Begins (S.bytes sink.old) (S.bytes sink.new)) }
+{
+    push_size(sink, b'*', words.len())?;
+    for word in words {
+        push_bulk(sink, word)?;
+    }
+    Ok(())
 }

@@ -9,9 +9,9 @@ use Rattle.links.specs.declared.sessions.fault.LinkFault.{LinkFault}
 use Rattle.links.specs.declared.sessions.fault.LinkFault.TheVariants as links
 use Rattle.links.specs.declared.sessions.questions.Question.{Question}
 use Rattle.links.specs.Sessions.Laws.{PiecesJoin}
-use Rattle.links.specs.Sessions.LongValues.{told_value, IsLinkValue, LinkParts, link_value_at, as_held}
+use Rattle.resp2.specs.Long.LongValues.{told_value, IsLongFrame, LongParts, long_frame_at, as_held}
 use Rattle.links.specs.Sessions.Links.{listed, heard_of, Tells, Because}
-use Rattle.links.proofs.SessionsLemmas.Values.{value_found, value_reads, tells_same, holds_same}
+use Rattle.resp2.proofs.LongLemmas.Values.{value_found, value_reads, tells_same, holds_same}
 
 tells-append : (node : NodeName) (listens : Bool) (asked middle left : List Question) (values more : List Frame) (events later : List Event)
     → Tells node listens asked values events middle → Tells node listens middle more later left → Tells node listens asked (values ++ more) (events ++ later) left
@@ -28,12 +28,12 @@ tells-append node listens asked middle left (x ∷ xs) more events later a b = (
   tells-append node listens a.1 middle left xs more a.3 later a.7 b,
 )
 
-pub all_values : (xs ys : List Frame) → AllByRecursion IsLinkValue xs → AllByRecursion IsLinkValue ys → AllByRecursion IsLinkValue (xs ++ ys)
+pub all_values : (xs ys : List Frame) → AllByRecursion IsLongFrame xs → AllByRecursion IsLongFrame ys → AllByRecursion IsLongFrame (xs ++ ys)
 all_values [] ys a b = b
 all_values (x ∷ xs) ys a b = (a.0, all_values xs ys a.1 b)
 
-parts_join : (stream piece held : List ℕ) (xs ys : List Frame) (rest : List ℕ) → LinkParts stream xs held → LinkParts (held ++ piece) ys rest
-    → LinkParts (stream ++ piece) (xs ++ ys) rest
+parts_join : (stream piece held : List ℕ) (xs ys : List Frame) (rest : List ℕ) → LongParts stream xs held → LongParts (held ++ piece) ys rest
+    → LongParts (stream ++ piece) (xs ++ ys) rest
 parts_join stream piece held xs ys rest a b =
     let first = flat_map spelling xs in
     let second = flat_map spelling ys in
@@ -45,24 +45,24 @@ parts_join stream piece held xs ys rest a b =
 record IsAgain (node : NodeName) (listens : Bool) (asked : List Question) (stream rest : List ℕ) (events : List Event) (left : List Question) : Type 0 where
   values : List Frame
   after : List ℕ
-  parts : LinkParts stream values after
+  parts : LongParts stream values after
   tells : Tells node listens asked values events left
-  reads : link_value_at after ≡ link_value_at rest
+  reads : long_frame_at after ≡ long_frame_at rest
   held : as_held after ≡ as_held rest
 
 again : (node : NodeName) (listens : Bool) (asked left : List Question) (bytes piece : List ℕ) (values : List Frame) (rest : List ℕ) (events : List Event)
-    → LinkParts (as_held bytes ++ piece) values rest → Tells node listens asked values events left → IsAgain node listens asked (bytes ++ piece) rest events left
+    → LongParts (as_held bytes ++ piece) values rest → Tells node listens asked values events left → IsAgain node listens asked (bytes ++ piece) rest events left
 again node listens asked left bytes piece [] rest events p t = record {
   values = [];
   after = bytes ++ piece;
   parts = (refl, tt);
   tells = t;
-  reads = sym (tells_same bytes piece) ∙ ap link_value_at p.0;
+  reads = sym (tells_same bytes piece) ∙ ap long_frame_at p.0;
   held = sym (holds_same bytes piece) ∙ ap as_held p.0;
 }
 again node listens asked left bytes piece (value ∷ values) rest events p t =
     let later = flat_map spelling values ++ rest in
-    let read = ap link_value_at (p.0 ∙ append_assoc (spelling value) (flat_map spelling values) rest) ∙ value_reads value later p.1.0 in
+    let read = ap long_frame_at (p.0 ∙ append_assoc (spelling value) (flat_map spelling values) rest) ∙ value_reads value later p.1.0 in
     let first = value_found (bytes ++ piece) (told_value value) later (sym (tells_same bytes piece) ∙ read) in
     record {
       values = first.value ∷ values;
@@ -73,7 +73,7 @@ again node listens asked left bytes piece (value ∷ values) rest events p t =
       held = refl;
     }
 
-because_same : (node : NodeName) (listens : Bool) (x y : List ℕ) (asked : List Question) (why : LinkFault) → link_value_at x ≡ link_value_at y → Because node listens y asked why
+because_same : (node : NodeName) (listens : Bool) (x y : List ℕ) (asked : List Question) (why : LinkFault) → long_frame_at x ≡ long_frame_at y → Because node listens y asked why
     → Because node listens x asked why
 because_same node listens x y asked (links.Unread fault) e h = e ∙ h
 because_same node listens x y asked links.Unasked e h = (h.0, h.1, e ∙ h.2, h.3)
@@ -84,7 +84,7 @@ because_same node listens x y asked links.Frame e h = absurd h
 
 pub pieces_join : PiecesJoin
 pieces_join node listens asked middle left stream piece held later events more (Ok x) a b =
-    let parts = subst (λ (t : List ℕ). LinkParts (t ++ piece) b.values b.rest) a.held_is b.parts in
+    let parts = subst (λ (t : List ℕ). LongParts (t ++ piece) b.values b.rest) a.held_is b.parts in
     let second = again node listens middle left a.rest piece b.values b.rest more parts b.tells in
     record {
       values = a.values ++ second.values;
@@ -95,7 +95,7 @@ pieces_join node listens asked middle left stream piece held later events more (
       tells = tells-append node listens asked middle left a.values second.values events more a.tells second.tells;
     }
 pieces_join node listens asked middle left stream piece held later events more (Err why) a b =
-    let parts = subst (λ (t : List ℕ). LinkParts (t ++ piece) b.values b.rest) a.held_is b.parts in
+    let parts = subst (λ (t : List ℕ). LongParts (t ++ piece) b.values b.rest) a.held_is b.parts in
     let second = again node listens middle b.left a.rest piece b.values b.rest more parts b.tells in
     record {
       values = a.values ++ second.values;

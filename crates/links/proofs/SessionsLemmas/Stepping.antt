@@ -1,5 +1,5 @@
 -- One value more, and the ends of a piece.
-use Rattle.std.proofs.Common.{◌≡◌, ℕ, ◌<◌, Bool, true, false, List, [], ◌∷◌, ◌++◌, length, Option, Some, None, Result, Ok, Err, refl, sym, ap, ◌∙◌, subst, append_assoc, true≢false, arith}
+use Rattle.std.proofs.Common.{◌≡◌, ℕ, ◌<◌, Bool, true, false, List, [], ◌∷◌, ◌++◌, length, Option, Some, Result, Ok, Err, refl, sym, ap, ◌∙◌, subst, append_assoc, true≢false, arith}
 use Rattle.std.proofs.lemmas.List.{append-nil, length-append}
 use Rattle.std.proofs.lemmas.List.Concat.{flat_map-append}
 use Rattle.std.specs.List.{flat_map}
@@ -7,7 +7,6 @@ use Rattle.std.specs.Prelude.{OnOk, is_err}
 use Rattle.ballot_law.specs.declared.events.Event.{Event}
 use Rattle.ballot_law.specs.declared.messages.NodeName.{NodeName}
 use Rattle.resp2.specs.declared.framing.fault.FrameFault.{FrameFault}
-use Rattle.resp2.specs.declared.framing.fault.FrameFault.TheVariants as frames
 use Rattle.resp2.specs.declared.framing.value.Value.{Value}
 use Rattle.resp2.specs.Framing.Frame.{Frame, view, spelling}
 use Rattle.resp2.specs.Framing.Stream.{Held, reading, bytes_in, held_size}
@@ -15,11 +14,11 @@ use Rattle.resp2.proofs.FramingLemmas.Passing.{spelled_some}
 use Rattle.links.specs.declared.sessions.fault.LinkFault.{LinkFault}
 use Rattle.links.specs.declared.sessions.fault.LinkFault.TheVariants as links
 use Rattle.links.specs.declared.sessions.questions.Question.{Question}
-use Rattle.links.specs.Sessions.LongValues.{told_value, IsLinkValue, LinkParts, as_held, LinkAnswers}
+use Rattle.resp2.specs.Long.LongValues.{told_value, IsLongFrame, LongParts, LongAnswers}
 use Rattle.links.specs.Sessions.Links.{next_asked, heard_of, listed, Tells, IsHeard, IsBroken, Because, Receives}
-use Rattle.links.specs.Sessions.OnTheWay.{Told, Untold, closed_by, IsOnTheWay, IsDone, Steps, Drains}
+use Rattle.links.specs.Sessions.OnTheWay.{Told, Untold, IsOnTheWay, IsDone, Steps, Drains}
 use Rattle.links.proofs.SessionsLemmas.Joining.{all_values}
-use Rattle.links.proofs.SessionsLemmas.Values.{value_found}
+use Rattle.resp2.proofs.LongLemmas.Values.{value_found}
 
 module _ (node : NodeName) (listens : Bool) where
   -- after other values one more
@@ -49,8 +48,8 @@ module _ (node : NodeName) (listens : Bool) where
   )
 
 -- after other values one more
-parts_push : (stream : List ℕ) (values : List Frame) (bytes : List ℕ) (value : Frame) (rest : List ℕ) → LinkParts stream values bytes → bytes ≡ spelling value ++ rest → IsLinkValue value
-    → LinkParts stream (values ++ value ∷ []) rest
+parts_push : (stream : List ℕ) (values : List Frame) (bytes : List ℕ) (value : Frame) (rest : List ℕ) → LongParts stream values bytes → bytes ≡ spelling value ++ rest → IsLongFrame value
+    → LongParts stream (values ++ value ∷ []) rest
 parts_push stream values bytes value rest p is one =
     let front = flat_map spelling values in (
       p.0
@@ -61,12 +60,12 @@ parts_push stream values bytes value rest p is one =
     )
 
 -- the reader answers to the bytes that it has
-answers_here : (rest : List ℕ) (held after : Held) (answer : Result (Option Value) FrameFault) → held ≡ reading rest → LinkAnswers view (bytes_in held) answer after
-    → LinkAnswers view rest answer after
-answers_here rest held after answer is h = subst (λ (t : List ℕ). LinkAnswers view t answer after) (ap bytes_in is) h
+answers_here : (rest : List ℕ) (held after : Held) (answer : Result (Option Value) FrameFault) → held ≡ reading rest → LongAnswers view (bytes_in held) answer after
+    → LongAnswers view rest answer after
+answers_here rest held after answer is h = subst (λ (t : List ℕ). LongAnswers view t answer after) (ap bytes_in is) h
 
 -- a value that is given is taken away
-pub less_is_held : (held after : Held) (v : Value) → held ≡ reading (bytes_in held) → LinkAnswers view (bytes_in held) (Ok (Some v)) after → held_size after < held_size held
+pub less_is_held : (held after : Held) (v : Value) → held ≡ reading (bytes_in held) → LongAnswers view (bytes_in held) (Ok (Some v)) after → held_size after < held_size held
 less_is_held held after v is h =
     let found = value_found (bytes_in held) (view v) h.0 h.1 in
     let some = spelled_some found.value in
@@ -81,7 +80,7 @@ open_is held bytes is = is ∙ ap reading (sym (ap bytes_in is))
 module _ (node : NodeName) (listens : Bool) (asked : List Question) where
   -- a value was heard
   pub value_heard : (stream : List ℕ) (held after : Held) (events : List Event) (left others : List Question) (v : Value) (before read : List Event)
-      → IsOnTheWay node listens asked stream held events left → LinkAnswers view (bytes_in held) (Ok (Some v)) after
+      → IsOnTheWay node listens asked stream held events left → LongAnswers view (bytes_in held) (Ok (Some v)) after
       → (t : Told node listens left (view v) before read others)
       → IsOnTheWay node listens asked stream after (events ++ listed t.heard) others
   value_heard stream held after events left others v before read a given t =
@@ -98,7 +97,7 @@ module _ (node : NodeName) (listens : Bool) (asked : List Question) where
 
   -- what came after the first events is there still, with what the value told
   pub value_added : (stream : List ℕ) (held after : Held) (so_far before old new : List Event) (left others : List Question) (v : Value)
-      → old ≡ before ++ so_far → IsOnTheWay node listens asked stream held so_far left → LinkAnswers view (bytes_in held) (Ok (Some v)) after
+      → old ≡ before ++ so_far → IsOnTheWay node listens asked stream held so_far left → LongAnswers view (bytes_in held) (Ok (Some v)) after
       → Told node listens left (view v) old new others
       → (more : List Event) × (new ≡ before ++ more) × IsOnTheWay node listens asked stream after more others
   value_added stream held after so_far before old new left others v is a given t = (
@@ -113,7 +112,7 @@ module _ (node : NodeName) (listens : Bool) (asked : List Question) where
   cut_here stream held why events left a because = record { values = a.values; rest = a.rest; parts = a.parts; left = left; tells = a.tells; because = because }
 
   -- a value tells nothing
-  value_shows : (rest : List ℕ) (left : List Question) (v : Value) (after : Held) (why : LinkFault) → LinkAnswers view rest (Ok (Some v)) after
+  value_shows : (rest : List ℕ) (left : List Question) (v : Value) (after : Held) (why : LinkFault) → LongAnswers view rest (Ok (Some v)) after
       → Untold node listens left (view v) why
       → Because node listens rest left why
   value_shows rest left v after links.Frame h untold = absurd untold
@@ -124,7 +123,7 @@ module _ (node : NodeName) (listens : Bool) (asked : List Question) where
   value_shows rest left v after (links.Unread fault) h untold = absurd untold
 
   pub value_broke : (stream : List ℕ) (held after : Held) (so_far before old new : List Event) (left : List Question) (v : Value) (why : LinkFault)
-      → old ≡ before ++ so_far → new ≡ old → IsOnTheWay node listens asked stream held so_far left → LinkAnswers view (bytes_in held) (Ok (Some v)) after
+      → old ≡ before ++ so_far → new ≡ old → IsOnTheWay node listens asked stream held so_far left → LongAnswers view (bytes_in held) (Ok (Some v)) after
       → Untold node listens left (view v) why
       → (more : List Event) × (new ≡ before ++ more) × IsBroken node listens asked stream why more
   value_broke stream held after so_far before old new left v why is same a given untold = (
@@ -132,36 +131,6 @@ module _ (node : NodeName) (listens : Bool) (asked : List Question) where
     same ∙ is,
     cut_here stream held why so_far left a (value_shows a.rest left v after why (answers_here a.rest held after (Ok (Some v)) a.held_is given) untold),
   )
-
-  -- no value is whole
-  pub ended_here : (stream : List ℕ) (held after : Held) (events : List Event) (left : List Question) → IsOnTheWay node listens asked stream held events left
-      → LinkAnswers {V = Value} view (bytes_in held) (Ok None) after → IsDone node listens asked stream after events left
-  ended_here stream held after events left a given =
-      let next = answers_here a.rest held after (Ok None) a.held_is given in (
-        as_held a.rest,
-        next.1,
-        record { values = a.values; rest = a.rest; parts = a.parts; waits = next.0; held_is = refl; tells = a.tells },
-      )
-
-  -- a fault shows, or memory was refused
-  pub fault_here : (stream : List ℕ) (held after : Held) (events : List Event) (left : List Question) (fault : FrameFault)
-      → IsOnTheWay node listens asked stream held events left
-      → LinkAnswers {V = Value} view (bytes_in held) (Err fault) after → IsBroken node listens asked stream (closed_by fault) events
-  fault_here stream held after events left frames.NoMemory a given = cut_here stream held links.NoMemory events left a tt
-  fault_here stream held after events left frames.BadKind a given =
-      cut_here stream held (links.Unread frames.BadKind) events left a (answers_here a.rest held after (Err frames.BadKind) a.held_is given)
-  fault_here stream held after events left frames.BadLength a given =
-      cut_here stream held (links.Unread frames.BadLength) events left a (answers_here a.rest held after (Err frames.BadLength) a.held_is given)
-  fault_here stream held after events left frames.BadNumber a given =
-      cut_here stream held (links.Unread frames.BadNumber) events left a (answers_here a.rest held after (Err frames.BadNumber) a.held_is given)
-  fault_here stream held after events left frames.MissingEnd a given =
-      cut_here stream held (links.Unread frames.MissingEnd) events left a (answers_here a.rest held after (Err frames.MissingEnd) a.held_is given)
-  fault_here stream held after events left frames.TooLong a given =
-      cut_here stream held (links.Unread frames.TooLong) events left a (answers_here a.rest held after (Err frames.TooLong) a.held_is given)
-  fault_here stream held after events left frames.TooDeep a given =
-      cut_here stream held (links.Unread frames.TooDeep) events left a (answers_here a.rest held after (Err frames.TooDeep) a.held_is given)
-  fault_here stream held after events left frames.TooMany a given =
-      cut_here stream held (links.Unread frames.TooMany) events left a (answers_here a.rest held after (Err frames.TooMany) a.held_is given)
 
   -- ---- a whole piece
 

@@ -22,7 +22,7 @@ use Rattle.links.specs.declared.sessions.fault.LinkFault.TheVariants as links
 use Rattle.links.specs.declared.sessions.questions.Question.{Question}
 use Rattle.links.specs.declared.sessions.questions.Question.TheVariants as asks
 use Rattle.links.specs.declared.sessions.replies.Vote.{Vote}
-use Rattle.links.specs.Sessions.LongValues.{told_value, LinkParts, link_value_at, as_held}
+use Rattle.resp2.specs.Long.LongValues.{told_value, LongParts, long_frame_at, as_held}
 
 -- what the answer to a message will be about
 abbrev pub question_of : Body → Question
@@ -184,18 +184,18 @@ Tells node listens asked (value ∷ values) events left =
 pub record IsHeard (node : NodeName) (listens : Bool) (asked : List Question) (stream : List ℕ) (events : List Event) (left : List Question) (held : List ℕ) : Type 0 where
   pub values : List Frame
   pub rest : List ℕ
-  pub parts : LinkParts stream values rest
-  pub waits : link_value_at rest ≡ Err NeedsMore
+  pub parts : LongParts stream values rest
+  pub waits : long_frame_at rest ≡ Err NeedsMore
   pub held_is : held ≡ as_held rest
   pub tells : Tells node listens asked values events left
 
 -- why the hearing breaks off in front of these bytes, at which these questions wait: this fault of a frame shows, or a value that answers none, or not its own
 abbrev pub Because : NodeName → Bool → (rest : List ℕ) → List Question → LinkFault → Type 0
-Because node listens rest asked (links.Unread why) = link_value_at rest ≡ Err (Faulty why)
-Because node listens rest asked links.Unasked = (value : Frame) × (later : List ℕ) × (link_value_at rest ≡ Ok (value, later)) × (next_asked listens asked ≡ None)
+Because node listens rest asked (links.Unread why) = long_frame_at rest ≡ Err (Faulty why)
+Because node listens rest asked links.Unasked = (value : Frame) × (later : List ℕ) × (long_frame_at rest ≡ Ok (value, later)) × (next_asked listens asked ≡ None)
 Because node listens rest asked links.Strange =
     (value : Frame) × (later : List ℕ) × (question : Question) × (others : List Question)
-    × (link_value_at rest ≡ Ok (value, later)) × (next_asked listens asked ≡ Some (question, others)) × (heard_of node question value ≡ Err links.Strange)
+    × (long_frame_at rest ≡ Ok (value, later)) × (next_asked listens asked ≡ Some (question, others)) × (heard_of node question value ≡ Err links.Strange)
 Because node listens rest asked links.NoMemory = Unit {0}
 Because node listens rest asked links.Full = ⊥
 Because node listens rest asked links.Frame = ⊥
@@ -204,7 +204,7 @@ Because node listens rest asked links.Frame = ⊥
 pub record IsBroken (node : NodeName) (listens : Bool) (asked : List Question) (stream : List ℕ) (why : LinkFault) (events : List Event) : Type 0 where
   pub values : List Frame
   pub rest : List ℕ
-  pub parts : LinkParts stream values rest
+  pub parts : LongParts stream values rest
   pub left : List Question
   pub tells : Tells node listens asked values events left
   pub because : Because node listens rest left why

@@ -9,7 +9,7 @@ use Rattle.resp2.specs.declared.framing.fault.FrameFault.TheVariants as frames
 use Rattle.links.specs.declared.sessions.fault.LinkFault.{LinkFault}
 use Rattle.links.specs.declared.sessions.fault.LinkFault.TheVariants as links
 use Rattle.links.specs.declared.sessions.questions.Question.{Question}
-use Rattle.links.specs.Sessions.LongValues.{LinkParts}
+use Rattle.resp2.specs.Long.LongValues.{LongParts}
 use Rattle.links.specs.Sessions.Links.{next_asked, heard_of, listed, Tells, IsHeard, IsBroken}
 
 -- one value told what it tells
@@ -41,7 +41,7 @@ module _ (node : NodeName) (listens : Bool) (asked : List Question) where
     pub values : List Frame
     pub rest : List ℕ
     pub held_is : held ≡ reading rest
-    pub parts : LinkParts stream values rest
+    pub parts : LongParts stream values rest
     pub tells : Tells node listens asked values events left
 
   -- all values of the stream were heard

@@ -6,19 +6,17 @@ ghost use Rattle.node_texts.specs.Messages.MessageTexts.{message_bytes, words_fr
 ghost use Rattle.resp2.specs.Framing.Frame.{view, spelling};
 ghost use Rattle.resp2.specs.Framing.Stream.{reading, held_size, bytes_in};
 ghost use Rattle.links.specs.declared.sessions.questions.Question.{Question};
-ghost use Rattle.links.specs.Sessions.LongHeld.{held_in, memory_in};
 ghost use Rattle.links.specs.Sessions.Links.{next_asked, listed, question_of, IsRefused, Receives};
 ghost use Rattle.links.specs.Speaking.{ack_bytes};
 ghost use Rattle.links.specs.Sessions.OnTheWay.{IsOnTheWay, Steps, Drains, Told, Untold, closed_by};
 
 use crate::sessions::fault::LinkFault;
-use crate::sessions::long_frames::LongFrames;
 use crate::sessions::questions::{Question, question_of};
 use crate::sessions::replies::heard_of;
 use ballot_law::{Event, Message, NoMemory, NodeName, RunId};
 use bytes::BytesMut;
 use node_texts::message_text;
-use resp2::{FrameFault, OutText, Value, push_bulk, push_size};
+use resp2::{FrameFault, LongFrames, OutText, Value, push_words};
 use std::alloc::Global;
 use std::collections::VecDeque;
 
@@ -52,17 +50,6 @@ fn add_heard(events: &mut Vec<Event>, heard: Option<Event>) -> Result<(), LinkFa
     }
 }
 
-/// Adds an array of these words, each of them a bulk string.
-fn push_words(text: &mut OutText, words: &[&[u8]]) -> Result<(), NoMemory>
-    ensures { OnOk result (text.new ≡ text.old ++ spelling (words_frame (map (λ word. word.now) words.now))) }
-{
-    push_size(text, b'*', words.len())?;
-    for word in words {
-        push_bulk(text, word)?;
-    }
-    Ok(())
-}
-
 /// Adds the commands by which a replica acknowledges at once what it has of its master's stream. Redis answers
 /// REPLCONF with nothing, or with an error where the client may not send it; so answers are off around it.
 fn push_ack(text: &mut OutText) -> Result<(), NoMemory>
@@ -78,8 +65,8 @@ impl Conversation {
     pub(crate) fn new(alloc: Global, node: NodeName, listens: bool) -> Conversation
         ensures node { result.node ≡ node }
         ensures listens { result.listens ≡ listens }
-        ensures frames { held_in result.frames ≡ reading [] }
-        ensures memory { memory_in result.frames ≡ 0 }
+        ensures frames { result.frames.held ≡ reading [] }
+        ensures memory { result.frames.memory ≡ 0 }
         ensures asked { result.asked.items ≡ [] }
         ensures unsent { result.unsent.items ≡ [] }
     {
@@ -257,17 +244,17 @@ impl Conversation {
 
     /// Hears the first value that is whole, and tells whether there was one.
     fn hear_next(&mut self, events: &mut Vec<Event>) -> Result<bool, LinkFault>
-        requires open { held_in self.old.frames ≡ reading (bytes_in (held_in self.old.frames)) }
+        requires open { self.old.frames.held ≡ reading (bytes_in self.old.frames.held) }
         ensures node { self.new.node ≡ self.old.node }
         ensures listens { self.new.listens ≡ self.old.listens }
         ensures unsent { self.new.unsent.items ≡ self.old.unsent.items }
-        ensures open { OnOk result (held_in self.new.frames ≡ reading (bytes_in (held_in self.new.frames))) }
-        ensures smaller { IfOk result (λ more. IsTrue more → held_size (held_in self.new.frames) < held_size (held_in self.old.frames)) }
-        ensures memory { IfOk result (λ more. IsFalse more → memory_in self.new.frames ≤ 65537) }
+        ensures open { OnOk result (self.new.frames.held ≡ reading (bytes_in self.new.frames.held)) }
+        ensures smaller { IfOk result (λ more. IsTrue more → held_size self.new.frames.held < held_size self.old.frames.held) }
+        ensures memory { IfOk result (λ more. IsFalse more → self.new.frames.memory ≤ 65537) }
         ensures heard { (stream : List ℕ) (asked : List Question) (before so_far : List Event) → events.old.items ≡ before ++ so_far
-            → IsOnTheWay self.old.node self.old.listens asked stream (held_in self.old.frames) so_far self.old.asked.items
+            → IsOnTheWay self.old.node self.old.listens asked stream self.old.frames.held so_far self.old.asked.items
             → (more : List Event) × (events.new.items ≡ before ++ more)
-            × Steps self.old.node self.old.listens asked stream result (held_in self.new.frames) more self.new.asked.items }
+            × Steps self.old.node self.old.listens asked stream result self.new.frames.held more self.new.asked.items }
     {
         let value = match self.frames.next() {
             Ok(Some(value)) => value,
@@ -282,16 +269,16 @@ impl Conversation {
 
     /// Hears each value that is whole.
     fn hear_whole(&mut self, events: &mut Vec<Event>) -> Result<(), LinkFault>
-        requires open { held_in self.old.frames ≡ reading (bytes_in (held_in self.old.frames)) }
+        requires open { self.old.frames.held ≡ reading (bytes_in self.old.frames.held) }
         ensures node { self.new.node ≡ self.old.node }
         ensures listens { self.new.listens ≡ self.old.listens }
         ensures unsent { self.new.unsent.items ≡ self.old.unsent.items }
-        ensures open { OnOk result (held_in self.new.frames ≡ reading (bytes_in (held_in self.new.frames))) }
-        ensures memory { OnOk result (memory_in self.new.frames ≤ 65537) }
+        ensures open { OnOk result (self.new.frames.held ≡ reading (bytes_in self.new.frames.held)) }
+        ensures memory { OnOk result (self.new.frames.memory ≤ 65537) }
         ensures heard { (stream : List ℕ) (asked : List Question) (before so_far : List Event) → events.old.items ≡ before ++ so_far
-            → IsOnTheWay self.old.node self.old.listens asked stream (held_in self.old.frames) so_far self.old.asked.items
+            → IsOnTheWay self.old.node self.old.listens asked stream self.old.frames.held so_far self.old.asked.items
             → (more : List Event) × (events.new.items ≡ before ++ more)
-            × Drains self.old.node self.old.listens asked stream result (held_in self.new.frames) more self.new.asked.items }
+            × Drains self.old.node self.old.listens asked stream result self.new.frames.held more self.new.asked.items }
     {
         loop {
             match self.hear_next(events) {
@@ -308,14 +295,14 @@ impl Conversation {
         piece: &[u8],
         events: &mut Vec<Event>,
     ) -> Result<(), LinkFault>
-        requires open { held_in self.old.frames ≡ reading (bytes_in (held_in self.old.frames)) }
+        requires open { self.old.frames.held ≡ reading (bytes_in self.old.frames.held) }
         ensures node { self.new.node ≡ self.old.node }
         ensures listens { self.new.listens ≡ self.old.listens }
         ensures unsent { self.new.unsent.items ≡ self.old.unsent.items }
-        ensures open { OnOk result (held_in self.new.frames ≡ reading (bytes_in (held_in self.new.frames))) }
-        ensures memory { OnOk result (memory_in self.new.frames ≤ 65537) }
+        ensures open { OnOk result (self.new.frames.held ≡ reading (bytes_in self.new.frames.held)) }
+        ensures memory { OnOk result (self.new.frames.memory ≤ 65537) }
         ensures received { (more : List Event) × (events.new.items ≡ events.old.items ++ more)
-            × Receives self.old.node self.old.listens self.old.asked.items (bytes_in (held_in self.old.frames) ++ piece.now) result more self.new.asked.items (bytes_in (held_in self.new.frames)) }
+            × Receives self.old.node self.old.listens self.old.asked.items (bytes_in self.old.frames.held ++ piece.now) result more self.new.asked.items (bytes_in self.new.frames.held) }
     {
         if self.frames.feed(piece).is_err() {
             return Err(LinkFault::NoMemory);
@@ -327,8 +314,8 @@ impl Conversation {
     pub(crate) fn drop_all(&mut self)
         ensures node { self.new.node ≡ self.old.node }
         ensures listens { self.new.listens ≡ self.old.listens }
-        ensures frames { held_in self.new.frames ≡ reading [] }
-        ensures memory { memory_in self.new.frames ≡ 0 }
+        ensures frames { self.new.frames.held ≡ reading [] }
+        ensures memory { self.new.frames.memory ≡ 0 }
         ensures asked { self.new.asked.items ≡ [] }
         ensures unsent { self.new.unsent.items ≡ [] }
     {

@@ -10,8 +10,8 @@ ghost use Rattle.links.specs.Speaking.{ack_bytes};
 
 use crate::sessions::conversation::{ASKED_MAX, Conversation};
 use crate::sessions::fault::LinkFault;
-use crate::sessions::long_bulk::HELD_MAX;
 use ballot_law::{Event, Message, NodeName, RunId};
+use resp2::HELD_MAX;
 use std::alloc::Global;
 use std::marker::Model;
 
@@ -27,7 +27,6 @@ pub struct LinkSession {
 impl Model for LinkSession {
     ghost use Rattle.std.specs.Prelude.{◌≡◌};
     ghost use Rattle.resp2.specs.Framing.Stream.{reading, bytes_in};
-    ghost use Rattle.links.specs.Sessions.LongHeld.{held_in, memory_in};
     ghost use Rattle.links.specs.Sessions.Links.{Link};
 
     ghost Value = { Link };
@@ -36,13 +35,13 @@ impl Model for LinkSession {
       node = session.talk.node;
       listens = session.talk.listens;
       asked = session.talk.asked.items;
-      held = bytes_in (held_in session.talk.frames);
-      kept = memory_in session.talk.frames;
+      held = bytes_in session.talk.frames.held;
+      kept = session.talk.frames.memory;
       unsent = session.talk.unsent.items;
       ended = session.fault;
     } };
 
-    ghost invariant = { λ session. held_in session.talk.frames ≡ reading (bytes_in (held_in session.talk.frames)) };
+    ghost invariant = { λ session. session.talk.frames.held ≡ reading (bytes_in session.talk.frames.held) };
 }
 
 impl LinkSession {
@@ -81,7 +80,7 @@ impl LinkSession {
         self.talk.ask(message)
     }
 
-    /// Puts out a command of these words whose answer tells nothing. A refusal changes nothing.
+    /// Puts out a command of these words whose answer tells nothing. A refusal, as of `ask`, changes nothing.
     pub fn order(&mut self, words: &[&[u8]]) -> Result<(), LinkFault>
         ensures ok { OnOk result (self.new ≡ record self.old {
           unsent = self.old.unsent ++ spelling (words_frame (map (λ word. word.now) words.now));
@@ -95,7 +94,7 @@ impl LinkSession {
     }
 
     /// Puts out that a replica is to acknowledge at once what it has of its master's stream. One answer comes, which
-    /// tells nothing. A refusal changes nothing.
+    /// tells nothing. A refusal, as of `ask`, changes nothing.
     pub fn ask_ack(&mut self) -> Result<(), LinkFault>
         ensures ok { OnOk result (self.new ≡ record self.old {
           unsent = self.old.unsent ++ ack_bytes;
@@ -108,7 +107,7 @@ impl LinkSession {
         self.talk.ask_ack()
     }
 
-    /// Puts out SENTINEL MYID, to a Sentinel that is to have this run id. A refusal changes nothing.
+    /// Puts out SENTINEL MYID, to a Sentinel that is to have this run id. A refusal, as of `ask`, changes nothing.
     pub fn ask_id(&mut self, id: RunId) -> Result<(), LinkFault>
         ensures ok { OnOk result (self.new ≡ record self.old {
           unsent = self.old.unsent ++ spelling (words_frame (codes "SENTINEL" ∷ codes "MYID" ∷ []));

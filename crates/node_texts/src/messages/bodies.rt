@@ -4,12 +4,10 @@ ghost use Rattle.std.specs.Prelude.{◌≡◌, ◌++◌, OnOk, OnErr};
 ghost use Rattle.resp2.specs.Framing.Writing.{Begins};
 ghost use Rattle.node_texts.specs.Messages.MessageTexts.{message_bytes, IsWritable};
 
-use crate::messages::commands::{
-    push_ask, push_hand_over, push_hello, push_replica_of, push_words,
-};
+use crate::messages::commands::{push_ask, push_hand_over, push_hello, push_replica_of};
 use crate::messages::replies::{push_answer, push_info, push_pong, push_role, push_shown};
 use ballot_law::{Body, NoMemory};
-use resp2::{ByteSink, push_kind};
+use resp2::{ByteSink, push_kind, push_words};
 use std::alloc::Global;
 
 /// Adds what a message says, as it stands on the wire; where memory is refused, a first part of it may be added.

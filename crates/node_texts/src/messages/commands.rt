@@ -1,6 +1,6 @@
 //! Commands, and hellos as they are passed on: arrays of words.
 
-ghost use Rattle.std.specs.Prelude.{◌≡◌, ◌∷◌, ◌++◌, [], map, OnOk, OnErr};
+ghost use Rattle.std.specs.Prelude.{◌≡◌, ◌∷◌, ◌++◌, [], OnOk, OnErr};
 ghost use Rattle.ballot_law.specs.Hellos.{IsHello, hello_text};
 ghost use Rattle.resp2.specs.Commands.{ask_frame, candidate_text};
 ghost use Rattle.resp2.specs.Framing.Frame.{spelling};
@@ -11,25 +11,12 @@ use crate::hellos::write_hello;
 use arrayvec::ArrayVec;
 use ballot_law::{Addr, HAND_OVER_MS, Heir, Hello, NoMemory, RunId};
 use itoa::Buffer;
-use resp2::{ByteSink, OutText, push_bulk, push_size};
+use resp2::{ByteSink, OutText, push_words};
 use std::alloc::Global;
 use tokens::{RUN_ID_LENGTH, ip_text, run_id_text};
 
 /// The channel on which Sentinels publish their hellos.
 const HELLO_CHANNEL: &[u8] = b"__sentinel__:hello";
-
-/// Adds an array of these words, each of them a bulk string.
-pub fn push_words<S: ByteSink>(sink: &mut S, words: &[&[u8]]) -> Result<(), NoMemory>
-    ensures ok { OnOk result (S.bytes sink.new
-        ≡ S.bytes sink.old ++ spelling (words_frame (map (λ word. word.now) words.now))) }
-    ensures err { OnErr result (Begins (S.bytes sink.old) (S.bytes sink.new)) }
-{
-    push_size(sink, b'*', words.len())?;
-    for word in words {
-        push_bulk(sink, word)?;
-    }
-    Ok(())
-}
 
 /// A run id as a word, `*` for none.
 pub fn candidate_text(candidate: Option<RunId>) -> ArrayVec<u8, RUN_ID_LENGTH>

@@ -10,11 +10,11 @@ ghost use Rattle.resp2.specs.Framing.Writing.{Begins};
 ghost use Rattle.node_texts.specs.Messages.MessageTexts.{answer_front, answer_frame, ping_frame, address_frame};
 
 use crate::infos::write_info;
-use crate::messages::commands::{candidate_text, push_words};
+use crate::messages::commands::candidate_text;
 use crate::roles::write_role;
 use ballot_law::{Info, NoMemory, Role, RunId, Shown};
 use itoa::Buffer;
-use resp2::{ByteSink, OutText, push_bulk, push_int, push_kind};
+use resp2::{ByteSink, OutText, push_bulk, push_int, push_kind, push_words};
 use std::alloc::Global;
 use tokens::ip_text;
 

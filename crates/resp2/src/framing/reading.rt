@@ -52,7 +52,7 @@ fn first_end(bytes: &[u8]) -> usize
 }
 
 /// How many bytes stand before the first CR or LF.
-fn line_length(bytes: &[u8]) -> usize
+pub fn line_length(bytes: &[u8]) -> usize
     ensures { result ≡ read.line_length bytes.now }
 {
     first_end(bytes)

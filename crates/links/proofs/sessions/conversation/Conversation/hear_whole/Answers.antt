@@ -1,5 +1,4 @@
 use Rattle.std.proofs.Common.{◌∙◌, Ok, Err}
-use Rattle.links.specs.Sessions.LongHeld.{held_in}
 use Rattle.links.proofs.SessionsLemmas.Stepping.{went_on, came_to_the_end, way_before, steps_after}
 use Rattle.links.proofs.sessions.conversation.Conversation.hear_whole.Goals as goal
 
@@ -16,12 +15,12 @@ loop-fault-preserved c =
       is_open = c.in-Ok-true.ensures.open;
       heard = λ stream asked before events is a.
           let on = so_far.heard stream asked before events is a in
-          let next = c.in-Ok-true.ensures.heard stream asked before on.0 on.1 (way_before mid.node first.node mid.listens first.listens asked stream (held_in mid.frames) on.0
+          let next = c.in-Ok-true.ensures.heard stream asked before on.0 on.1 (way_before mid.node first.node mid.listens first.listens asked stream mid.frames.held on.0
           mid.asked.items so_far.node so_far.listens on.2) in (
             next.0,
             next.1,
-            went_on first.node first.listens asked stream c.in-Ok-true.field-0 (held_in after.frames) next.0 after.asked.items c.in-Ok-true.field-0-test
-                (steps_after mid.node first.node mid.listens first.listens asked stream (Ok c.in-Ok-true.field-0) (held_in after.frames) next.0 after.asked.items so_far.node
+            went_on first.node first.listens asked stream c.in-Ok-true.field-0 after.frames.held next.0 after.asked.items c.in-Ok-true.field-0-test
+                (steps_after mid.node first.node mid.listens first.listens asked stream (Ok c.in-Ok-true.field-0) after.frames.held next.0 after.asked.items so_far.node
                 so_far.listens next.2),
           );
     }
@@ -33,12 +32,12 @@ returns-in-Ok-false-clause-heard c = λ stream asked before events is a.
     let mid = c.loop-fault.self in
     let after = c.hear_next.new.self in
     let on = so_far.heard stream asked before events is a in
-    let next = c.in-Ok-false.ensures.heard stream asked before on.0 on.1 (way_before mid.node first.node mid.listens first.listens asked stream (held_in mid.frames) on.0 mid.asked.items
+    let next = c.in-Ok-false.ensures.heard stream asked before on.0 on.1 (way_before mid.node first.node mid.listens first.listens asked stream mid.frames.held on.0 mid.asked.items
     so_far.node so_far.listens on.2) in (
       next.0,
       next.1,
-      came_to_the_end first.node first.listens asked stream c.in-Ok-false.field-0 (held_in after.frames) next.0 after.asked.items c.in-Ok-false.field-0-test
-          (steps_after mid.node first.node mid.listens first.listens asked stream (Ok c.in-Ok-false.field-0) (held_in after.frames) next.0 after.asked.items so_far.node so_far.listens
+      came_to_the_end first.node first.listens asked stream c.in-Ok-false.field-0 after.frames.held next.0 after.asked.items c.in-Ok-false.field-0-test
+          (steps_after mid.node first.node mid.listens first.listens asked stream (Ok c.in-Ok-false.field-0) after.frames.held next.0 after.asked.items so_far.node so_far.listens
           next.2),
     )
 
@@ -49,10 +48,10 @@ returns-in-Err-clause-heard c = λ stream asked before events is a.
     let mid = c.loop-fault.self in
     let after = c.hear_next.new.self in
     let on = so_far.heard stream asked before events is a in
-    let next = c.in-Err.ensures.heard stream asked before on.0 on.1 (way_before mid.node first.node mid.listens first.listens asked stream (held_in mid.frames) on.0 mid.asked.items
+    let next = c.in-Err.ensures.heard stream asked before on.0 on.1 (way_before mid.node first.node mid.listens first.listens asked stream mid.frames.held on.0 mid.asked.items
     so_far.node so_far.listens on.2) in (
       next.0,
       next.1,
-      steps_after mid.node first.node mid.listens first.listens asked stream (Err c.in-Err.fault) (held_in after.frames) next.0 after.asked.items so_far.node
+      steps_after mid.node first.node mid.listens first.listens asked stream (Err c.in-Err.fault) after.frames.held next.0 after.asked.items so_far.node
           so_far.listens next.2,
     )

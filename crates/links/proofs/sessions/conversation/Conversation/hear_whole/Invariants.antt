@@ -2,7 +2,6 @@ use Rattle.std.proofs.Common.{◌≡◌, ◌++◌, ℕ, List}
 use Rattle.ballot_law.specs.declared.events.Event.{Event}
 use Rattle.resp2.specs.Framing.Stream.{reading, bytes_in, held_size}
 use Rattle.links.specs.declared.sessions.questions.Question.{Question}
-use Rattle.links.specs.Sessions.LongHeld.{held_in}
 use Rattle.links.specs.Sessions.OnTheWay.{IsOnTheWay}
 use Rattle.links.proofs.sessions.conversation.Conversation.hear_whole.Given as goal
 
@@ -12,12 +11,12 @@ invariant-loop-fault l = record {
   node : l.self.node ≡ l.initial.self.node;
   listens : l.self.listens ≡ l.initial.self.listens;
   unsent : l.self.unsent.items ≡ l.initial.self.unsent.items;
-  is_open : held_in l.self.frames ≡ reading (bytes_in (held_in l.self.frames));
+  is_open : l.self.frames.held ≡ reading (bytes_in l.self.frames.held);
   heard : (stream : List ℕ) (asked : List Question) (before so_far : List Event) → l.initial.events.items ≡ before ++ so_far
-      → IsOnTheWay l.initial.self.node l.initial.self.listens asked stream (held_in l.initial.self.frames) so_far l.initial.self.asked.items
+      → IsOnTheWay l.initial.self.node l.initial.self.listens asked stream l.initial.self.frames.held so_far l.initial.self.asked.items
       → (more : List Event) × (l.events.items ≡ before ++ more)
-      × IsOnTheWay l.initial.self.node l.initial.self.listens asked stream (held_in l.self.frames) more l.self.asked.items;
+      × IsOnTheWay l.initial.self.node l.initial.self.listens asked stream l.self.frames.held more l.self.asked.items;
 }
 
 abbrev pub decreases-loop-fault : goal.decreases-loop-fault
-decreases-loop-fault l = held_size (held_in l.self.frames)
+decreases-loop-fault l = held_size l.self.frames.held

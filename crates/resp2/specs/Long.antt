@@ -1,0 +1,3 @@
+pub mod LongValues
+pub mod LongHeld
+pub mod LongLaws
