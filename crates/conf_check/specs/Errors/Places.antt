@@ -6,6 +6,8 @@ use Rattle.conf_lines.specs.declared.lines.StateLine.TheVariants.{Monitor}
 use Rattle.conf_lines.specs.declared.lines.Line.{Line}
 use Rattle.conf_lines.specs.declared.lines.Line.TheVariants.{State}
 use Rattle.conf_lines.specs.Lines.{line_of}
+use Rattle.conf_check.specs.declared.errors.first_lines.Sought.{Sought}
+use Rattle.conf_check.specs.declared.errors.first_lines.Sought.TheVariants.{ZeroQuorum, Foreign}
 
 -- the number of the first that passes the test; the first of all has this one
 abbrev pub first_line : (List ℕ → Bool) → ℕ → List (List ℕ) → Option ℕ
@@ -23,3 +25,8 @@ has_zero_quorum text = says_zero (line_of text)
 -- the bytes of the line aren't UTF-8
 abbrev pub is_foreign : List ℕ → Bool
 is_foreign text = not (is_utf8 text)
+
+-- the line is one that is looked for
+abbrev pub is_sought : Sought → List ℕ → Bool
+is_sought ZeroQuorum text = has_zero_quorum text
+is_sought Foreign text = is_foreign text

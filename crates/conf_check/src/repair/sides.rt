@@ -88,28 +88,36 @@ fn add_masters(out: &mut Vec<u8>, one: &NamedConf, other: &NamedConf) -> Result<
     Ok(())
 }
 
+/// Two files.
+#[derive(Clone, Copy)]
+struct Pair<'a> {
+    one: &'a NamedConf,
+    other: &'a NamedConf,
+}
+
 /// Adds the words with which a line of two files begins.
-fn begin(
-    out: &mut Vec<u8>,
-    kind: &str,
-    one: &NamedConf,
-    other: &NamedConf,
-) -> Result<(), NoMemory> {
+fn begin(out: &mut Vec<u8>, kind: &str, files: Pair<'_>) -> Result<(), NoMemory> {
     add(out, kind)?;
-    add(out, one.name.as_str())?;
+    add(out, files.one.name.as_str())?;
     add(out, " and ")?;
-    add(out, other.name.as_str())?;
+    add(out, files.other.name.as_str())?;
     add(out, ": ")
 }
 
-/// Ends a line with two numbers of a master.
+/// Adds a line of two numbers of a master, that of each file, where they differ.
 fn add_numbers(
     out: &mut Vec<u8>,
-    what: &str,
+    kind: &str,
+    files: Pair<'_>,
     name: &Name,
-    one: u64,
-    other: u64,
+    what: &str,
+    numbers: (u64, u64),
 ) -> Result<(), NoMemory> {
+    let (one, other) = numbers;
+    if one == other {
+        return Ok(());
+    }
+    begin(out, kind, files)?;
     add(out, what)?;
     add(out, " of ")?;
     add_name(out, name)?;
@@ -128,13 +136,6 @@ fn add_card(out: &mut Vec<u8>, card: Card) -> Result<(), NoMemory> {
     add_number(out, card.epoch)
 }
 
-/// Two files.
-#[derive(Clone, Copy)]
-struct Pair<'a> {
-    one: &'a NamedConf,
-    other: &'a NamedConf,
-}
-
 /// Adds each setting of a master that differs.
 fn add_settings(
     out: &mut Vec<u8>,
@@ -143,31 +144,13 @@ fn add_settings(
     one: Settings,
     other: Settings,
 ) -> Result<(), NoMemory> {
-    if one.after_ms != other.after_ms {
-        begin(out, "warning: ", files.one, files.other)?;
-        add_numbers(
-            out,
-            "down-after-milliseconds",
-            name,
-            one.after_ms,
-            other.after_ms,
-        )?;
-    }
-    if one.parallel_syncs != other.parallel_syncs {
-        begin(out, "warning: ", files.one, files.other)?;
-        add_numbers(
-            out,
-            "parallel-syncs",
-            name,
-            one.parallel_syncs,
-            other.parallel_syncs,
-        )?;
-    }
-    if one.timeout != other.timeout {
-        begin(out, "warning: ", files.one, files.other)?;
-        add_numbers(out, "failover-timeout", name, one.timeout, other.timeout)?;
-    }
-    Ok(())
+    let kind = "warning: ";
+    let silences = (one.after_ms, other.after_ms);
+    add_numbers(out, kind, files, name, "down-after-milliseconds", silences)?;
+    let syncs = (one.parallel_syncs, other.parallel_syncs);
+    add_numbers(out, kind, files, name, "parallel-syncs", syncs)?;
+    let timeouts = (one.timeout, other.timeout);
+    add_numbers(out, kind, files, name, "failover-timeout", timeouts)
 }
 
 /// Adds where a master is in both files, where that differs.
@@ -181,7 +164,7 @@ fn add_cards(
     if one == other {
         return Ok(());
     }
-    begin(out, "note: ", files.one, files.other)?;
+    begin(out, "note: ", files)?;
     add_name(out, name)?;
     add(out, " is")?;
     add_card(out, one)?;
@@ -207,17 +190,8 @@ fn add_watched(
 ) -> Result<(), NoMemory> {
     add_nodes(out, files.one, one, other)?;
     add_nodes(out, files.other, other, one)?;
-    if one.quorum == other.quorum {
-        return Ok(());
-    }
-    begin(out, "note: ", files.one, files.other)?;
-    add_numbers(
-        out,
-        "the quorum",
-        &one.name,
-        u64::from(one.quorum),
-        u64::from(other.quorum),
-    )
+    let quorums = (u64::from(one.quorum), u64::from(other.quorum));
+    add_numbers(out, "note: ", files, &one.name, "the quorum", quorums)
 }
 
 /// Adds in what a master differs that both files name: in the first it has the number `m`, in the other `n`.
