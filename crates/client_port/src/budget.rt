@@ -84,7 +84,8 @@ pub fn connections_beside<N: Net>(
 }
 
 /// The room of a single port of so many threads that keeps up to `most` connections, where so many descriptors are to
-/// stay free for connections that the process opens itself.
+/// stay free for connections that the process opens itself. Where fewer descriptors are left there is room for fewer,
+/// or for none. The errors are those of `connections_of_each`.
 pub fn seats_beside<N: Net>(
     net: &N,
     alloc: Global,

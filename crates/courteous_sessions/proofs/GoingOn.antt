@@ -1,15 +1,13 @@
 -- One value more within a limit, and the ends of a piece.
-use Rattle.std.proofs.Common.{◌≡◌, ◌≢◌, ◌⊎◌, ◌≤◌, ◌<◌, ◌+◌, ℕ, Bool, true, false, List, [], ◌∷◌, ◌++◌, Option, Some, None, Result, Ok, Err, refl, sym, ap, ◌∙◌, subst, inl, inr, append_assoc, append-nil, true≢false, arith}
-use Rattle.std.specs.Prelude.{OnOk, OnErr, is_err}
+use Rattle.std.proofs.Common.{◌≡◌, ◌≢◌, ◌⊎◌, ◌≤◌, ◌<◌, ◌+◌, ℕ, false, List, [], ◌∷◌, ◌++◌, Option, Some, None, Result, Ok, Err, refl, sym, ap, ◌∙◌, subst, inl, inr, append_assoc, append-nil, arith}
 use Rattle.ballot_law.specs.Limits as limits
 use Rattle.pubsub.specs.Listening.{Listening, is_listening}
 use Rattle.client_commands.specs.Attendants.{Attendance, TakesCommon}
 use Rattle.client_commands.specs.Courtesies.{ClientInfo, is_stranger}
-use Rattle.client_commands.specs.Lines.{Reads, value_at, IsLineOf, Answers}
+use Rattle.client_commands.specs.Lines.{value_at, IsLineOf, Answers}
 use Rattle.client_commands.proofs.LineStreams.{reads_next, spelled_or_line}
 use Rattle.sentinel_core.specs.declared.serving.fault.ServeFault.{ServeFault}
-use Rattle.sentinel_core.specs.declared.serving.fault.ServeFault.TheVariants.{Frame as FaultyFrame, Read, Write, Halted as ServeHalted, NoMemory as OutOfMemory}
-use Rattle.sentinel_core.specs.Serving.Serving.{last_line}
+use Rattle.sentinel_core.specs.declared.serving.fault.ServeFault.TheVariants.{Frame as FaultyFrame, Halted as ServeHalted, NoMemory as OutOfMemory}
 use Rattle.port_sessions.specs.declared.limit.Reach.{Reach}
 use Rattle.port_sessions.specs.declared.limit.Reach.TheVariants.{Done, Waits}
 use Rattle.port_sessions.specs.Stores.{may_store, one_if}
@@ -20,8 +18,6 @@ use Rattle.resp2.specs.Asked.{IsCommon}
 use Rattle.resp2.specs.Commands.{redis_command_of}
 use Rattle.resp2.specs.declared.command.CommandFault.{CommandFault}
 use Rattle.resp2.specs.declared.framing.fault.FrameFault.{FrameFault}
-use Rattle.resp2.specs.declared.framing.fault.FrameFault.TheVariants.{NoMemory}
-use Rattle.resp2.specs.declared.framing.fault.Unread.TheVariants.{NeedsMore, Faulty}
 use Rattle.resp2.specs.declared.framing.value.Value.{Value}
 use Rattle.resp2.specs.Framing.Frame.{Frame, view, spelling, HasLines}
 use Rattle.resp2.specs.Framing.Stream.{Held, reading, ended, bytes_in, held_size}
@@ -29,10 +25,10 @@ use Rattle.resp2.proofs.Switches.{known_too}
 use Rattle.sentinel_cell.specs.declared.view.View.{View}
 use Rattle.sentinel_cell.specs.Histories.{World}
 use Rattle.courteous_sessions.specs.Epochs.{heard_as}
-use Rattle.courteous_sessions.specs.Stores.{value_may_store, stores_among, IsStoreNext}
+use Rattle.courteous_sessions.specs.Stores.{value_may_store, stores_among}
 use Rattle.courteous_sessions.specs.Visits.{Guest, guest, IsUnanswered, Tells}
 use Rattle.port_sessions.specs.OnTheWay.{Refuses}
-use Rattle.courteous_sessions.specs.OnTheWay.{IsReady, IsOnTheWay, RespondsIn, guest_of}
+use Rattle.courteous_sessions.specs.OnTheWay.{IsReady, RespondsIn, guest_of}
 use Rattle.courteous_sessions.specs.GoingOn.{IsWithin, IsCommonAhead, IsValueAhead, Stops, StepsWithin, DrainsWithin, BreaksWithin, GoesOn}
 use Rattle.courteous_sessions.proofs.Serving.{was_read, serves-push, shows_fault}
 use Rattle.courteous_sessions.proofs.Stepping.{common_tells}
@@ -84,20 +80,6 @@ common_is_ahead asker l command more fewer held mark moved after same is stands 
       marks = marked_after held mark moved after taken.value taken.rest is stands (ap value_at (ap bytes_in taken.held_is) ∙ taken.found) taken.left moves;
       smaller = smaller;
     })
-
--- a command that may store and has to wait
-pub common_is_next : (command : Command) (more : ℕ) (held mark after left : Held) → mark ≡ held → TakesCommon held after command
-    → (may_store (Ok command) ≡ true) × (more ≡ 0) × (left ≡ mark) → (more ≡ 0) × (left ≡ held) × IsStoreNext (bytes_in held)
-common_is_next command more held mark after left stands taken waits = (
-  waits.1,
-  waits.2 ∙ stands,
-  record {
-    value = taken.value;
-    rest = taken.rest;
-    found = ap value_at (ap bytes_in taken.held_is) ∙ taken.found;
-    stores = ap may_store (known_too taken.value command taken.asked) ∙ waits.0;
-  },
-)
 
 pub guest_same : (before mid : Attendance) (l same_l : Listening) (hearing same : NotesHeard) (v : View) → mid.asker ≡ before.asker → same_l ≡ l → same ≡ hearing
     → guest_of before l hearing v ≡ guest_of mid same_l same v
@@ -256,22 +238,6 @@ module _ (start : World) (now : ℕ) (most : ℕ) (stream : List ℕ) (g : Guest
         },
       )
   finished more (ended fault) after bytes h a given = absurd (let no = a.so_far.held_is in cc)
-
-  -- the next one is put off
-  pub put_off : (more : ℕ) (held after : Held) (bytes : List ℕ) (h : Guest) → IsWithin start now most stream g more held bytes h
-      → (more ≡ 0) × (after ≡ held) × IsStoreNext (bytes_in held) → Stops start now most stream g Waits after bytes h
-  put_off more held after bytes h a given =
-      let rest : bytes_in held ≡ a.so_far.rest = ap bytes_in a.so_far.held_is in (
-        a.so_far.rest,
-        given.1 ∙ a.so_far.held_is,
-        record {
-          values = a.so_far.values;
-          parts = a.so_far.parts;
-          answers = a.so_far.answers;
-          all = omega (arith, a.count, given.0);
-          next = subst IsStoreNext rest given.2;
-        },
-      )
 
   -- a fault shows after the values that were answered
   pub refused_within : (more : ℕ) (held after : Held) (bytes : List ℕ) (m : Guest) (fault : FrameFault) (before unsent put : List ℕ) (why : ServeFault)

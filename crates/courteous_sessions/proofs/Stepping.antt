@@ -1,11 +1,11 @@
 -- One step of the answering of a piece: from what the calls of it promise to what is on the way after it.
-use Rattle.std.proofs.Common.{◌≡◌, ◌≢◌, ◌⊎◌, ◌≤◌, ◌+◌, ◌||◌, inl, inr, ℕ, nat_lt, Bool, true, false, List, [], ◌∷◌, ◌++◌, take, drop, length, Option, Some, None, Result, Ok, Err, refl, sym, ap, ◌∙◌, subst, append_assoc, append-nil, true≢false, arith}
+use Rattle.std.proofs.Common.{◌≡◌, ◌≢◌, ◌⊎◌, ◌≤◌, ◌+◌, ◌||◌, inr, ℕ, nat_lt, true, false, List, [], ◌∷◌, ◌++◌, take, drop, length, Option, Some, None, Result, Ok, Err, refl, sym, ap, ◌∙◌, subst, append_assoc, true≢false, arith}
 use Rattle.std.proofs.Math.Seq.{take-append_seam, drop-append_seam}
 use Rattle.std.proofs.lemmas.Bool.Decides.{nat_tests}
 use Rattle.std.proofs.lemmas.List.{length-append}
 use Rattle.std.specs.List.{list_any}
 use Rattle.std.specs.Option.{is_some}
-use Rattle.std.specs.Prelude.{OnOk, OnErr, IfErr, is_err}
+use Rattle.std.specs.Prelude.{OnOk, OnErr, IfErr}
 use Rattle.pubsub.specs.Globs.{matches}
 use Rattle.pubsub.specs.Listening.{Listening, holds, is_listening}
 use Rattle.client_commands.specs.Attendants.{Attendance, TakesCommon}
@@ -23,31 +23,26 @@ use Rattle.port_sessions.specs.Talks.{Party, party, Responds}
 use Rattle.ballot_law.specs.declared.commands.Command.{Command}
 use Rattle.ballot_law.specs.declared.commands.Command.TheVariants.{Info, Subscribe}
 use Rattle.resp2.specs.declared.command.CommandFault.{CommandFault}
-use Rattle.resp2.specs.declared.framing.fault.FrameFault.{FrameFault}
 use Rattle.resp2.specs.Framing.Frame.{Frame, spelling, IsFrame}
-use Rattle.resp2.specs.Framing.Stream.{Held, reading, ended, bytes_in, Feeds}
+use Rattle.resp2.specs.Framing.Stream.{Held, reading, bytes_in}
 use Rattle.client_commands.specs.Lines.{value_at, Answers as Reads}
 use Rattle.client_commands.proofs.LineStreams.{value_is_frame}
 use Rattle.sentinel_cell.specs.declared.view.View.{View}
 use Rattle.sentinel_cell.specs.Histories.{World}
 use Rattle.courteous_sessions.specs.Epochs.{heard_as}
-use Rattle.courteous_sessions.specs.Visits.{Guest, guest, switches, hears_switches, confined, TellsInfo, Serves, ServesIn, Tells, Breaks, Receives}
+use Rattle.courteous_sessions.specs.Visits.{Guest, guest, switches, hears_switches, confined, TellsInfo, Serves, ServesIn, Tells}
 use Rattle.courteous_sessions.specs.declared.shapes.Shape.{Shape}
 use Rattle.courteous_sessions.specs.declared.shapes.Shape.TheVariants.{Plain}
 use Rattle.courteous_sessions.specs.Retelling.{shape_of, IsTold, JoinsTold}
 use Rattle.client_commands.specs.declared.protocols.Protocol.{Protocol}
 use Rattle.client_commands.specs.declared.protocols.Protocol.TheVariants.{Two, Three}
-use Rattle.courteous_sessions.specs.OnTheWay.{IsReady, RespondsIn, BeginsWith, IsOnTheWay, Drains, guest_of}
+use Rattle.courteous_sessions.specs.OnTheWay.{IsReady, RespondsIn, BeginsWith, IsOnTheWay, guest_of}
 use Rattle.courteous_sessions.proofs.Keeping.{common_differs, common_shape, common_turn, common_answers}
 use Rattle.courteous_sessions.proofs.Serving.{was_read, responds_alike, heard_otherwise, ready_same, served_by_others, served_unheard, value_served}
 
 pub on_ok : {X E A B : Type 0} (answer : Result X E) → (A → B) → OnOk answer A → OnOk answer B
 on_ok (Ok x) f h = f h
 on_ok (Err e) f h = h
-
-pub ok_of : {X E A : Type 0} (answer : Result X E) → is_err answer ≡ false → OnOk answer A → A
-ok_of (Ok x) is h = h
-ok_of (Err e) is h = absurd (true≢false is)
 
 -- a value that was read is one that a stream may have
 pub read_frame : {V : Type 0} (view : V → Frame) (value : V) (held after : Held) → held ≡ reading (bytes_in held) → Reads view held (Ok (Some value)) after → IsFrame (view value)
@@ -277,9 +272,3 @@ module _ (start : World) (now : ℕ) where
         is_out ∙ ap (λ (t : List ℕ). t ++ text) front,
         info_told figures value p q turned.0 text turned.2 (told.0, subst (λ (t : List ℕ). BeginsWith t told.0) back told.1, told.2),
       )
-
-  -- nothing was answered for want of memory
-  pub cut_before : (stream : List ℕ) (g : Guest) (unsent put : List ℕ) → put ≡ unsent
-      → (more : List ℕ) × (put ≡ unsent ++ more) × Breaks start now stream g OutOfMemory more g.party.view
-  cut_before stream g unsent put same =
-      ([], same ∙ sym (append-nil unsent), record { values = []; rest = stream; parts = refl; last = g; answers = (refl, refl); sees = inl refl })

@@ -1,6 +1,6 @@
 -- What is put out where a value is asked.
 use Rattle.std.proofs.Common.{◌≡◌, ◌⊎◌, ℕ, List, ◌++◌, refl, sym, subst, inl, inr, Option, None, Result, Ok, Err}
-use Rattle.std.specs.Prelude.{OnOk, IfErr}
+use Rattle.std.specs.Prelude.{IfErr}
 use Rattle.ballot_law.specs.declared.commands.Command.{Command}
 use Rattle.ballot_law.specs.declared.commands.Command.TheVariants.{Info, Subscribe}
 use Rattle.resp2.specs.Commands.{redis_command_of}
@@ -15,13 +15,6 @@ use Rattle.courteous_sessions.specs.Epochs.{heard_as}
 use Rattle.courteous_sessions.specs.Visits.{FailsAt, IsUnanswered}
 
 module _ (start : World) (now : ℕ) where
-  -- what was asked was answered
-  pub was_answered : {X : Type 0} (p q : Party) (command : Result Command CommandFault) (unsent given : List ℕ) (answer : Result X ServeFault)
-      → (more : List ℕ) × (given ≡ unsent ++ more) × Ends start now p command answer more q
-      → OnOk answer ((more : List ℕ) × (given ≡ unsent ++ more) × Responds start now p command more q)
-  was_answered p q command unsent given (Ok x) ends = ends
-  was_answered p q command unsent given (Err fault) ends = tt
-
   fails_by : (p : Party) (command : Result Command CommandFault) (fault : ServeFault) (q : Party) → Fails start now p command fault q
       → (fault ≡ Halted) ⊎ (fault ≡ NoMemory)
   fails_by p command Halted q h = inl refl
@@ -36,13 +29,6 @@ module _ (start : World) (now : ℕ) where
       → IfErr answer (λ fault. ((fault ≡ Halted) ⊎ (fault ≡ NoMemory)) × FailsAt start now v command fault w)
   faults_of v w l m command unsent given (Ok x) ends = tt
   faults_of v w l m command unsent given (Err fault) ends = (fails_by (party v l) command fault (party w m) ends.2, (l, m, ends.2))
-
-  -- the responder was to listen
-  pub unsubscribed_by : {X : Type 0} (K : Type 0) (v w : View) (l m : Option ℕ) (answer : Result X ServeFault)
-      → IfErr answer (λ fault. K × Fails start now (party v l) (Ok Subscribe) fault (party w m))
-      → IfErr answer (λ fault. ((fault ≡ Halted) ⊎ (fault ≡ NoMemory)) × FailsAt start now v (Ok Subscribe) fault w)
-  unsubscribed_by K v w l m (Ok x) h = tt
-  unsubscribed_by K v w l m (Err fault) h = (fails_by (party v l) (Ok Subscribe) fault (party w m) h.1, (l, m, h.1))
 
   -- what was asked was answered, and the answer had no room
   pub unput_at : (command : Result Command CommandFault) (v w : View) (l m : Option ℕ) (bytes : List ℕ) → Responds start now (party v l) command bytes (party w m)

@@ -12,7 +12,7 @@ use resp2::CommandFault;
 /// bring a group to the greatest epoch, after which no failover can begin.
 pub const EPOCHS_AHEAD: u64 = 65_536;
 
-/// Whether an epoch is too far above the current one.
+/// Whether an epoch is too far above the current one: by more than `EPOCHS_AHEAD`.
 pub fn is_far(epoch: u64, current: u64) -> bool
     ensures { result ≡ is_far epoch current }
 {

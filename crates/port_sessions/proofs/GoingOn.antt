@@ -1,7 +1,6 @@
 -- One value more within a limit, and the ends of a piece.
-use Rattle.std.proofs.Common.{◌≡◌, ◌≢◌, ◌⊎◌, ◌≤◌, ◌+◌, ◌-◌, ℕ, true, false, List, [], ◌∷◌, ◌++◌, Option, Some, None, length, drop, Result, Ok, Err, refl, sym, ap, ◌∙◌, subst, inl, inr, append_assoc, true≢false, arith}
-use Rattle.std.proofs.lemmas.List.{append-nil, length-append}
-use Rattle.std.proofs.Math.Seq.{drop-append_seam}
+use Rattle.std.proofs.Common.{◌≡◌, ◌≢◌, ◌⊎◌, ◌≤◌, ◌+◌, ◌-◌, ℕ, true, false, List, [], ◌∷◌, ◌++◌, Option, Some, None, Result, Ok, Err, refl, sym, ap, ◌∙◌, subst, inl, inr, append_assoc, true≢false, arith}
+use Rattle.std.proofs.lemmas.List.{append-nil}
 use Rattle.std.specs.Prelude.{OnOk, is_err}
 use Rattle.sentinel_core.specs.declared.serving.fault.ServeFault.{ServeFault}
 use Rattle.sentinel_core.specs.declared.serving.fault.ServeFault.TheVariants.{Frame as FaultyFrame, Read, Write, Halted as ServeHalted, NoMemory as OutOfMemory}
@@ -27,12 +26,6 @@ use Rattle.port_sessions.specs.GoingOn.{IsWithin, IsAsked, Stops, StepsWithin, D
 use Rattle.port_sessions.proofs.Stepping.{answers-push}
 
 -- ---- a reader that stands before a value
-
--- the bytes before those that are held still are passed
-pub passed_by : (front held : List ℕ) → drop (length (front ++ held) - length held) (front ++ held) ≡ held
-passed_by front held =
-    let size : length (front ++ held) - length held ≡ length front = omega (arith, length-append front held) in
-    rw size (drop-append_seam front held)
 
 -- a value was taken off the front
 pub front_of : (held after : Held) (asked : Result Command CommandFault) → Asks held (Ok (Some asked)) after
@@ -164,22 +157,6 @@ module _ (start : World) (now : ℕ) (most : ℕ) (stream : List ℕ) (p : Party
         },
       )
   finished more (ended fault) after bytes q a given = absurd (let no = a.so_far.held_is in cc)
-
-  -- the next one is put off
-  pub put_off : (more : ℕ) (held after : Held) (bytes : List ℕ) (q : Party) → IsWithin start now most stream p more held bytes q
-      → (more ≡ 0) × (after ≡ held) × IsStoreNext (bytes_in held) → Stops start now most stream p Waits after bytes q
-  put_off more held after bytes q a given =
-      let rest : bytes_in held ≡ a.so_far.rest = ap bytes_in a.so_far.held_is in (
-        a.so_far.rest,
-        given.1 ∙ a.so_far.held_is,
-        record {
-          values = a.so_far.values;
-          parts = a.so_far.parts;
-          answers = a.so_far.answers;
-          all = omega (arith, a.count, given.0);
-          next = subst IsStoreNext rest given.2;
-        },
-      )
 
   -- a fault shows behind the values that were answered
   faulty : (more : ℕ) (held : Held) (bytes : List ℕ) (m : Party) (fault : FrameFault) (line : List ℕ) (a : IsWithin start now most stream p more held bytes m)

@@ -6,12 +6,9 @@ use Rattle.std.specs.Option.{is_some}
 use Rattle.ballot_law.specs.declared.cards.Shown.{Shown}
 use Rattle.ballot_law.specs.declared.commands.Command.{Command}
 use Rattle.ballot_law.specs.declared.commands.Command.TheVariants.{Ping, IsMasterDownByAddr, GetMasterAddrByName, Masters, Master, Replicas, Sentinels, MyId, CkQuorum, Failover, FlushConfig, Subscribe, Info}
-use Rattle.ballot_law.specs.declared.messages.Body.{Body}
 use Rattle.ballot_law.specs.declared.messages.Body.TheVariants.{AddressAnswer}
 use Rattle.ballot_law.specs.declared.messages.Output.{Output}
 use Rattle.node_texts.specs.Messages.MessageTexts.{message_bytes}
-use Rattle.port_answers.specs.Answers.{command_fault}
-use Rattle.resp2.specs.Framing.Frame.{spelling}
 use Rattle.sentinel_core.specs.Serving.Serving.{output_bytes}
 use Rattle.std.specs.List.{flat_map}
 use Rattle.sentinel_core.specs.declared.serving.fault.ServeFault.{ServeFault}
@@ -20,7 +17,6 @@ use Rattle.resp2.specs.declared.command.CommandFault.{CommandFault}
 use Rattle.sentinel_cell.specs.declared.view.View.{View}
 use Rattle.sentinel_cell.specs.Histories.{World}
 use Rattle.sentinel_rules.specs.Answers.{named}
-use Rattle.port_sessions.specs.Listening.{answer_while_listening}
 use Rattle.port_sessions.specs.Talks.{Party, party, takes_turn, listens_after, IsTold, TakesTurn, Replies, RespondsAt, Responds, BeginsNotes, Fails, Ends}
 use Rattle.port_sessions.specs.OnTheWay.{ShowsAnswer, ShowsNothing, Turns}
 
@@ -40,33 +36,16 @@ module _ (start : World) (now : ℕ) where
   silent_one v listens after command bytes w silent same r =
       subst (λ (l : Option ℕ). RespondsAt start now l v command bytes (party w after)) (sym silent) (r, same)
 
-  -- what a client is told that listens
-  pub listener_told : {X : Type 0} (v : View) (listens after : Option ℕ) (command : Result Command CommandFault) (put : Result X ServeFault) (unsent given : List ℕ)
-      → is_some listens ≡ true → after ≡ listens → OnOk put (given ≡ unsent ++ spelling (answer_while_listening command)) → OnErr put (given ≡ unsent)
-      → IfErr put (λ fault. fault ≡ OutOfMemory)
-      → (more : List ℕ) × (given ≡ unsent ++ more) × Ends start now (party v listens) command put more (party v after)
-  listener_told v None after command put unsent given is same ok err fault = absurd (true≢false (sym is))
-  listener_told v (Some entry) after command put unsent given is same ok err fault =
-      put_out_ends (party v (Some entry)) command put (spelling (answer_while_listening command)) unsent given (party v after) ok err fault (refl, ap (party v) same)
-
-  -- the answer to a value that is no command
-  pub fault_told : {X : Type 0} (v : View) (listens after : Option ℕ) (refusal : CommandFault) (put : Result X ServeFault) (unsent given : List ℕ)
-      → listens ≡ None → after ≡ listens → OnOk put (given ≡ unsent ++ spelling (command_fault refusal)) → OnErr put (given ≡ unsent)
-      → IfErr put (λ fault. fault ≡ OutOfMemory)
-      → (more : List ℕ) × (given ≡ unsent ++ more) × Ends start now (party v listens) (Err refusal) put more (party v after)
-  fault_told v listens after refusal put unsent given silent same ok err fault =
-      put_out_ends (party v listens) (Err refusal) put (spelling (command_fault refusal)) unsent given (party v after) ok err fault
-      (silent_one v listens after (Err refusal) (spelling (command_fault refusal)) v silent (same ∙ silent) (refl, refl))
-
   -- the answer to an address
   pub told_written : {X : Type 0} (v : View) (listens : Option ℕ) (name : Option (List ℕ)) (put : Result X ServeFault) (unsent given : List ℕ) (told : Option Shown)
-      (body : Body) (w : View)
-      → listens ≡ None → body ≡ AddressAnswer told → OnOk put (given ≡ unsent ++ message_bytes body) → OnErr put (given ≡ unsent)
+      (w : View)
+      → listens ≡ None → OnOk put (given ≡ unsent ++ message_bytes (AddressAnswer told)) → OnErr put (given ≡ unsent)
       → IfErr put (λ fault. fault ≡ OutOfMemory) → IsTold start v (named start.plan name) told w
       → (more : List ℕ) × (given ≡ unsent ++ more) × Ends start now (party v listens) (Ok (GetMasterAddrByName name)) put more (party w listens)
-  told_written v listens name put unsent given told body w silent body_is ok err fault h =
-      put_out_ends (party v listens) (Ok (GetMasterAddrByName name)) put (message_bytes body) unsent given (party w listens) ok err fault
-      (silent_one v listens listens (Ok (GetMasterAddrByName name)) (message_bytes body) w silent silent (told, ap message_bytes body_is, h))
+  told_written v listens name put unsent given told w silent ok err fault h =
+      let bytes = message_bytes (AddressAnswer told) in
+      put_out_ends (party v listens) (Ok (GetMasterAddrByName name)) put bytes unsent given (party w listens) ok err fault
+      (silent_one v listens listens (Ok (GetMasterAddrByName name)) bytes w silent silent (told, refl, h))
 
   -- a command that takes a turn is answered by what it shows
   by_turn : (v : View) (command : Command) (bytes : List ℕ) (w : View) → takes_turn command ≡ true → TakesTurn start now v command bytes w →

@@ -1,5 +1,5 @@
 -- What a command shows in its turn.
-use Rattle.std.proofs.Common.{◌≡◌, ℕ, List, [], ◌∷◌, ◌++◌, Option, Some, None, refl, sym, ap, ◌∙◌, subst, drop, length}
+use Rattle.std.proofs.Common.{◌≡◌, ℕ, List, [], ◌∷◌, ◌++◌, Option, Some, None, sym, ap, ◌∙◌, subst, drop, length}
 use Rattle.std.specs.Prelude.{slice_get}
 use Rattle.ballot_law.specs.declared.commands.Command.{Command}
 use Rattle.ballot_law.specs.declared.events.Input.{Input}
@@ -13,17 +13,15 @@ use Rattle.sentinel_core.proofs.ServingLemmas.Answering.{command_writable}
 use Rattle.sentinel_cell.specs.declared.entry.Entry.{Entry}
 use Rattle.sentinel_cell.specs.declared.entry.Outcome.{Outcome}
 use Rattle.sentinel_cell.specs.declared.entry.Outcome.TheVariants.{Stored}
-use Rattle.sentinel_cell.specs.declared.fault.ActFault.{ActFault}
-use Rattle.sentinel_cell.specs.declared.fault.ActFault.TheVariants.{NoMemory, Spent, Halted, StoreRefused}
 use Rattle.sentinel_cell.specs.declared.view.View.{View}
 use Rattle.sentinel_cell.specs.Histories.{World, IsGood, IsLegal, IsStep, IsOutcome, after, after_outcome, replay}
-use Rattle.sentinel_cell.specs.Standing.{Adds, Faulted}
+use Rattle.sentinel_cell.specs.Standing.{Adds}
 use Rattle.sentinel_cell.proofs.Acts.{first_steps, last_step}
 use Rattle.sentinel_cell.proofs.Cards.{good_after, good_replay}
 use Rattle.sentinel_rules.specs.Answers.{commanded}
 use Rattle.sentinel_rules.specs.Takes.{cleared}
 use Rattle.port_sessions.specs.Talks.{asked}
-use Rattle.port_sessions.specs.OnTheWay.{ShowsAnswer, ShowsNothing, ended_by}
+use Rattle.port_sessions.specs.OnTheWay.{ShowsAnswer}
 
 -- one message that can be written
 abbrev pub ShowsOne : List Output → Type 0
@@ -62,15 +60,6 @@ turned_ok start now v w command before shown none a =
     let b : Adds start v (asked now command) Stored shown w = subst (λ (l : List Output). Adds start v (asked now command) Stored l w) (all_of before shown none) a in
     let one = turn_shows_one start v w now command shown b in
     (one.0, one.1, one.2, b)
-
-pub turned_err : (start : World) (now : ℕ) (v w : View) (command : Command) (outputs : List Output) (fault : ActFault)
-    → Faulted start v (asked now command) outputs w fault → ShowsNothing start now v command (ended_by fault) w
-turned_err start now v w command outputs NoMemory h = h.1
-turned_err start now v w command outputs Spent h = (Spent, (λ e. let no : ⊥ = cc in no), (refl, h.1, h.2))
-turned_err start now v w command outputs Halted h =
-    (Halted, (λ e. let no : ⊥ = cc in no), subst (λ (l : List Output). Faulted start v (asked now command) l w Halted) h.0 h)
-turned_err start now v w command outputs StoreRefused h =
-    (StoreRefused, (λ e. let no : ⊥ = cc in no), subst (λ (l : List Output). Faulted start v (asked now command) l w StoreRefused) h.0 h)
 
 -- the message that is shown first
 

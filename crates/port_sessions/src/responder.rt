@@ -7,7 +7,7 @@ ghost use Rattle.ballot_law.specs.declared.messages.Body.TheVariants.{AddressAns
 ghost use Rattle.ballot_law.specs.declared.messages.Message.{Message};
 ghost use Rattle.ballot_law.specs.declared.messages.Output.TheVariants.{Send};
 ghost use Rattle.ballot_law.specs.declared.rosters.TheConstants.{MASTERS_MAX};
-ghost use Rattle.node_texts.specs.Messages.MessageTexts.{message_bytes, IsWritable};
+ghost use Rattle.node_texts.specs.Messages.MessageTexts.{message_bytes, address_frame, IsWritable};
 ghost use Rattle.port_answers.specs.Answers.{command_fault};
 ghost use Rattle.ballot_law.specs.Limits.{IsWithin};
 ghost use Rattle.resp2.specs.Framing.Frame.{spelling};
@@ -21,26 +21,32 @@ ghost use Rattle.port_sessions.specs.OnTheWay.{Turns, Refuses, ended_by};
 
 use crate::hearing::NotesHeard;
 use crate::notes::{line_for_listener, write_note};
+use arrayvec::ArrayVec;
 use ballot_law::{
     Body, Card, Command, Event, Input, MASTERS_MAX, Message, Name, NoMemory, NodeName, Note,
     Output, Roster, Shown,
 };
 use bytes::BytesMut;
+use itoa::Buffer;
 use node_texts::{message_text, short_text};
 use port_answers::AnswerText;
-use resp2::{CommandFault, FrameFault, OutText};
+use resp2::{ByteSink, CommandFault, FrameFault, OutText, push_words};
 use sentinel_cell::{ActFault, Seat, SharedSentinel};
 use sentinel_conf::ConfStore;
 use sentinel_core::ServeFault;
 use sentinel_outbox::Outbox;
 use std::alloc::Global;
 use std::sync::Wait;
+use tokens::ip_text;
 
 /// The last line of a stream that is no RESP2.
 const PROTOCOL_ERROR: &[u8] = b"-ERR Protocol error\r\n";
 
 /// How many bytes of room a client keeps for its answers once all of them are sent.
 const ROOM_KEPT: usize = 16_384;
+
+/// Room for the answer to a question for an address, which has at most 37 bytes.
+const ADDRESS_ROOM: usize = 40;
 
 /// What answers the values of a client, one after the other, with all that isn't sent to it yet: the room for the
 /// outputs of a command, the answers and notes that aren't sent yet, and what the client hears of notes. It knows
@@ -101,14 +107,57 @@ fn told_of<S: ConfStore>(
     })
 }
 
-/// The answer to a question for an address, as a message at the port; neither of its ends stands on the wire.
-fn address_answer(shown: Option<Shown>) -> Message
-    ensures { result.body ≡ AddressAnswer shown }
+/// The answer to a question for an address, in room on the stack.
+#[derive(Drop)]
+struct AddressText {
+    bytes: ArrayVec<u8, ADDRESS_ROOM>,
+}
+
+impl ByteSink for AddressText {
+    ghost bytes = { λ text. text.bytes.items };
+
+    ghost within = { λ _. Unit {0} };
+
+    ghost full = { λ _. Unit {0} };
+
+    fn push(&mut self, piece: &[u8]) -> Result<(), NoMemory> {
+        match self.bytes.try_extend_from_slice(piece) {
+            Ok(()) => Ok(()),
+            Err(_) => Err(NoMemory),
+        }
+    }
+}
+
+/// Adds the address that a question for one is told, or the null array where no master has the name.
+fn push_told(sink: &mut AddressText, told: Option<Shown>) -> Result<(), NoMemory>
+    ensures ok { OnOk result (sink.new.bytes.items ≡ sink.old.bytes.items ++ spelling (address_frame told)) }
 {
-    Message {
-        sender: NodeName::PortAt(0),
-        target: NodeName::PortAt(0),
-        body: Body::AddressAnswer(shown),
+    let Some(shown) = told else {
+        return sink.push(b"*-1\r\n");
+    };
+    let addr = shown.card.addr;
+    let mut port = Buffer::new();
+    push_words(
+        sink,
+        &[
+            ip_text(addr.ip).as_slice(),
+            port.format(addr.port).as_bytes(),
+        ],
+    )
+}
+
+/// Adds the answer to a question for an address to what isn't sent yet, with one copy.
+fn put_told(told: Option<Shown>, unsent: &mut BytesMut) -> Result<(), ServeFault>
+    ensures ok { OnOk result (unsent.new.items ≡ unsent.old.items ++ message_bytes (AddressAnswer told)) }
+    ensures err { OnErr result (unsent.new.items ≡ unsent.old.items) }
+    ensures fault { IfErr result (λ fault. fault ≡ ServeFault.NoMemory) }
+{
+    let mut text = AddressText {
+        bytes: ArrayVec::new(),
+    };
+    match push_told(&mut text, told) {
+        Ok(()) => put(unsent, text.bytes.as_slice()),
+        Err(_) => Err(ServeFault::NoMemory),
     }
 }
 
@@ -278,8 +327,8 @@ impl Responder {
         ensures told { self.new.hears.told ≡ self.old.hears.told }
         ensures err { OnErr result (self.new.unsent.items ≡ self.old.unsent.items) }
     {
-        let shown = told_of(cell, seat, name);
-        put_message(self.alloc, &address_answer(shown), &mut self.unsent)
+        let told = told_of(cell, seat, name);
+        put_told(told, &mut self.unsent)
     }
 
     /// Puts out the one message that the outbox shows.
