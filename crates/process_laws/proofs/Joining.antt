@@ -13,8 +13,8 @@ use Rattle.sentinel_cell.specs.Histories.{World}
 use Rattle.port_sessions.specs.Talks.{Party, Responds}
 use Rattle.links.specs.declared.sessions.questions.Question.{Question}
 use Rattle.links.specs.Sessions.Links.{question_of, next_asked, listed, heard_of, Tells}
-use Rattle.links.specs.Sessions.LongValues.{told_value, IsLinkValue}
-use Rattle.links.proofs.SessionsLemmas.Values.{value_plain}
+use Rattle.resp2.specs.Long.LongValues.{told_value, IsLongFrame}
+use Rattle.resp2.proofs.LongLemmas.Values.{value_plain}
 use Rattle.process_laws.specs.Connections.{IsAskable, Served, AreDelivered, AnswersAreDelivered}
 use Rattle.process_laws.proofs.Turns.{replied_to, question_spelled}
 
@@ -49,7 +49,7 @@ pub delivered : (start : World) (asker : NodeName) (questions : List Body) (p : 
     → AllByRecursion IsAskable questions → p.listens ≡ None
     → flat_map message_bytes questions ≡ (flat_map spelling values ++ unread) ++ not_yet_got → AllByRecursion IsFrame values
     → Served start p values bytes q
-    → bytes ≡ (flat_map spelling replies ++ held) ++ not_yet_come → AllByRecursion IsLinkValue replies
+    → bytes ≡ (flat_map spelling replies ++ held) ++ not_yet_come → AllByRecursion IsLongFrame replies
     → Tells (SentinelAt start.plan.place) false (map question_of questions) replies events left
     → AreDelivered start asker p.view questions events
 delivered start asker questions p values unread not_yet_got bytes q [] held not_yet_come events left askable silent sent whole served put_out read tells =

@@ -13,7 +13,9 @@ pub mod Reading
 pub mod Turns
 pub mod Words
 pub mod Joining
+pub mod ReadFiles
 pub mod About
+pub mod Asking
 pub mod OwnCommands
 pub mod SharedConnections
 pub mod HeardAnswers
@@ -26,4 +28,7 @@ pub mod CarriedPieces
 pub mod FilesLeft
 pub mod TwoConnected
 pub mod Watched
+pub mod SeatCalls
 pub mod PortCalls
+pub mod Meanwhile
+pub mod Logins

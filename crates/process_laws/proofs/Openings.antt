@@ -26,8 +26,8 @@ use Rattle.links.specs.declared.speaking.Login.{Login}
 use Rattle.links.specs.declared.speaking.Login.TheVariants.{Without, Pass, User}
 use Rattle.links.specs.Speaking.{login_questions, id_bytes, id_questions}
 use Rattle.links.specs.Sessions.Links.{heard_of, named, Tells}
-use Rattle.links.specs.Sessions.LongValues.{LinkParts, told_value, told_of, IsLinkValue, whole_lines}
-use Rattle.links.proofs.SessionsLemmas.Values.{value_plain}
+use Rattle.resp2.specs.Long.LongValues.{LongParts, told_value, told_of, IsLongFrame, whole_lines}
+use Rattle.resp2.proofs.LongLemmas.Values.{value_plain}
 use Rattle.node_texts.specs.Messages.MessageTexts.{message_bytes, body_frame, words_frame}
 use Rattle.port_answers.specs.Answers.{id_frame}
 use Rattle.port_sessions.specs.Talks.{Party, party}
@@ -158,7 +158,7 @@ module _ (P : List Entry → Type 0) (Q : Guest → Frame → List ℕ → Type 
       → AllByRecursion (RowIsOne Q) words → AllByRecursion IsAskableWord words → is_stranger g.asker ≡ false → is_listening g.listening ≡ false → g.party.listens ≡ None
       → spelling id_value ++ flat_map bytes_of words ≡ (flat_map spelling values ++ unread) ++ not_yet_got → AllByRecursion IsFrame values
       → (served : ServedOn start g values bytes h) → EachTurn P Q start g values bytes h served
-      → bytes ≡ (flat_map spelling replies ++ held) ++ not_yet_come → AllByRecursion IsLinkValue replies
+      → bytes ≡ (flat_map spelling replies ++ held) ++ not_yet_come → AllByRecursion IsLongFrame replies
       → Tells voter false (Identity id ∷ map question_for words) replies events left
       → Goes P R start asker voter g id words events
   identified words g values unread not_yet_got bytes h [] held not_yet_come events left rows askable known quiet silent sent whole served turns put_out read tells = inl tells.0
@@ -227,7 +227,7 @@ pub record IsLinked (P : List Entry → Type 0) (Q : Guest → Frame → List �
   pub put_out : flat_map spelling greeting ++ bytes ≡ came ++ not_yet_come
   pub replies : List Frame
   pub held : List ℕ
-  pub read : LinkParts came replies held
+  pub read : LongParts came replies held
   pub left : List Question
   pub tells : Tells voter false (login_questions login ++ (id_questions (Some id) ++ map question_for words)) replies events left
 
@@ -245,7 +245,7 @@ module _ (P : List Entry → Type 0) (Q : Guest → Frame → List ℕ → Type 
       → Tells voter false (Order ∷ (Identity id ∷ map question_for words)) replies events c.left → Goes P R start asker voter g id words events
   with_login answer one plain [] same asks = inl asks.0
   with_login answer one plain (r ∷ rs) same asks =
-      let read : AllByRecursion IsLinkValue (r ∷ rs) = subst (AllByRecursion IsLinkValue) same c.read.1 in
+      let read : AllByRecursion IsLongFrame (r ∷ rs) = subst (AllByRecursion IsLongFrame) same c.read.1 in
       let came : c.came ≡ flat_map spelling (r ∷ rs) ++ c.held = c.read.0 ∙ ap (λ (l : List Frame). flat_map spelling l ++ c.held) same in
       let greeted : spelling answer ++ c.bytes ≡ flat_map spelling c.greeting ++ c.bytes =
       ap (λ (t : List ℕ). t ++ c.bytes) (sym (append-nil (spelling answer))) ∙ ap (λ (l : List Frame). flat_map spelling l ++ c.bytes) (sym one) in

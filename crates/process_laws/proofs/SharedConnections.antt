@@ -21,8 +21,8 @@ use Rattle.courteous_sessions.specs.Retelling.{first_word, second_word, shape_of
 use Rattle.links.specs.declared.sessions.questions.Question.{Question}
 use Rattle.links.specs.declared.sessions.questions.Question.TheVariants.{Order}
 use Rattle.links.specs.Sessions.Links.{question_of, next_asked, listed, heard_of, Tells}
-use Rattle.links.specs.Sessions.LongValues.{told_value, IsLinkValue}
-use Rattle.links.proofs.SessionsLemmas.Values.{value_plain}
+use Rattle.resp2.specs.Long.LongValues.{told_value, IsLongFrame}
+use Rattle.resp2.proofs.LongLemmas.Values.{value_plain}
 use Rattle.node_texts.specs.Messages.Deliveries.{heard as delivery}
 use Rattle.node_texts.specs.Messages.MessageTexts.{body_frame}
 use Rattle.port_sessions.specs.Talks.{Party, party, Responds}
@@ -283,7 +283,7 @@ pub delivered : (P : List Entry → Type 0) (Q : Guest → Frame → List ℕ �
     → AllByRecursion (RowIsOne Q) words → AllByRecursion IsAskableWord words → is_stranger g.asker ≡ false → is_listening g.listening ≡ false → g.party.listens ≡ None
     → flat_map bytes_of words ≡ (flat_map spelling values ++ unread) ++ not_yet_got → AllByRecursion IsFrame values
     → (served : ServedOn start g values bytes h) → EachTurn P Q start g values bytes h served
-    → bytes ≡ (flat_map spelling replies ++ held) ++ not_yet_come → AllByRecursion IsLinkValue replies
+    → bytes ≡ (flat_map spelling replies ++ held) ++ not_yet_come → AllByRecursion IsLongFrame replies
     → Tells (SentinelAt start.plan.place) false (map question_for words) replies events left
     → AreDeliveredSo P R start asker g.party.view words events
 delivered P Q R hears start asker words g values unread not_yet_got bytes h [] held not_yet_come events left rows askable known quiet silent sent whole served turns put_out read

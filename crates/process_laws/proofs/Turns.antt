@@ -43,7 +43,7 @@ use Rattle.sentinel_rules.specs.Takes.{cleared}
 use Rattle.port_sessions.specs.Talks.{asked, Party, Responds, RespondsAt, Replies, TakesTurn, listens_after}
 use Rattle.port_sessions.proofs.Turning.{last_world}
 use Rattle.links.specs.Sessions.Links.{question_of, heard_of}
-use Rattle.links.specs.Sessions.LongValues.{told_value}
+use Rattle.resp2.specs.Long.LongValues.{told_value}
 use Rattle.process_laws.specs.Connections.{IsAskable, Fits, answer_body, port_answer, IsDelivered}
 use Rattle.process_laws.proofs.Reading.{answer_plain, answer_heard}
 

@@ -35,7 +35,7 @@ use Rattle.failover_states.specs.Replicas.{told, is_due, is_next}
 use Rattle.links.specs.declared.sessions.questions.Question.TheVariants as asks
 use Rattle.links.specs.declared.speaking.Login.TheVariants.{Without}
 use Rattle.links.specs.Sessions.Links.{heard_of, named, answered}
-use Rattle.links.specs.Sessions.LongValues.{told_value, IsLinkValue}
+use Rattle.resp2.specs.Long.LongValues.{told_value, IsLongFrame}
 use Rattle.links.specs.Speaking.{id_bytes}
 use Rattle.node_texts.specs.Messages.MessageTexts.{answer_frame}
 use Rattle.port_answers.specs.Answers.{id_frame}
@@ -314,7 +314,7 @@ next_whole : IsFrame next_answer
 unfolding on_literals
 next_whole = record { plain = (lit< tt, (lit< tt, (lit< tt, (lit< tt, tt)))); depth = lit≤ tt; width = lit≤ tt; size = lit≤ tt }
 
-id_whole : IsLinkValue (id_frame id)
+id_whole : IsLongFrame (id_frame id)
 id_whole = let len = length-id_text id in inr (omega (arith, len))
 
 -- ---- the turns of the other one

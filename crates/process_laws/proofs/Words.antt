@@ -16,7 +16,7 @@ use Rattle.courteous_sessions.proofs.Keeping.{own_as_before, own_in_three}
 use Rattle.links.specs.declared.sessions.questions.Question.{Question}
 use Rattle.links.specs.declared.sessions.questions.Question.TheVariants.{Order}
 use Rattle.links.specs.Sessions.Links.{question_of, listed, heard_of, Tells}
-use Rattle.links.specs.Sessions.LongValues.{told_value}
+use Rattle.resp2.specs.Long.LongValues.{told_value}
 use Rattle.node_texts.specs.Messages.MessageTexts.{message_bytes}
 use Rattle.port_sessions.specs.Talks.{Party, party, Responds}
 use Rattle.pubsub.specs.Listening.{is_listening}

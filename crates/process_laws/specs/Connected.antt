@@ -20,7 +20,7 @@ use Rattle.links.specs.declared.sessions.questions.Question.{Question}
 use Rattle.links.specs.declared.sessions.questions.Question.TheVariants.{Order}
 use Rattle.links.specs.declared.speaking.Login.{Login}
 use Rattle.links.specs.Sessions.Links.{question_of, Tells as LinkTells}
-use Rattle.links.specs.Sessions.LongValues.{LinkParts}
+use Rattle.resp2.specs.Long.LongValues.{LongParts}
 use Rattle.links.specs.Speaking.{login_questions, id_bytes, id_questions, row_bytes}
 use Rattle.node_texts.specs.Messages.MessageTexts.{message_bytes, words_frame}
 use Rattle.pubsub.specs.Listening.{is_listening}
@@ -191,7 +191,7 @@ pub record IsCarried (roster : Roster) (before : List Action) (i : ℕ) (id : Ru
 pub record IsToldBy (node : NodeName) (asked : List Question) (came : List ℕ) (event : Event) : Type 0 where
   pub values : List Frame
   pub rest : List ℕ
-  pub parts : LinkParts came values rest
+  pub parts : LongParts came values rest
   pub before : List Event
   pub after : List Event
   pub left : List Question

@@ -36,7 +36,7 @@ use Rattle.sentinel_rules.specs.Takes.{next, cleared}
 use Rattle.port_sessions.specs.Talks.{asked, Party, Responds}
 use Rattle.links.specs.declared.sessions.questions.Question.{Question}
 use Rattle.links.specs.Sessions.Links.{question_of, Tells}
-use Rattle.links.specs.Sessions.LongValues.{LinkParts}
+use Rattle.resp2.specs.Long.LongValues.{LongParts}
 
 -- what is asked of another Sentinel: a PING, and whether a master is down
 abbrev pub IsAskable : Body → Type 0
@@ -103,7 +103,7 @@ pub record IsConnected (start : World) (p : Party) (questions : List Body) (even
   pub put_out : bytes ≡ came ++ not_yet_come
   pub replies : List Frame
   pub held : List ℕ
-  pub read : LinkParts came replies held
+  pub read : LongParts came replies held
   pub left : List Question
   pub tells : Tells (SentinelAt start.plan.place) false (map question_of questions) replies events left
 
@@ -124,6 +124,11 @@ SendersAreFree =
 abbrev pub TargetsAreFree : Type 0
 TargetsAreFree = (roster : Roster) (i : ℕ) (parts : BallotParts) (message : Message) (to : NodeName) → IsRight roster i parts message
     → IsRight roster i parts (record message { target = to })
+
+-- the address is in this master's list
+pub record IsListed (plan : Plan) (m : ℕ) (addr : Addr) : Type 0 where
+  pub within : m < master_count plan
+  pub listed : list_any (same_addr addr) (nodes_of plan m) ≡ true
 
 -- the address is in the list of one master alone
 pub record IsAlone (plan : Plan) (m : ℕ) (addr : Addr) : Type 0 where

@@ -11,12 +11,17 @@ use Rattle.sentinel_cell.specs.declared.view.View.{View}
 use Rattle.sentinel_cell.specs.Histories.{World, replay}
 use Rattle.sentinel_rules.specs.Plans.{Plan}
 use Rattle.process_laws.specs.Actions.{Took, sent_by, IsHeard}
-use Rattle.process_laws.specs.Connections.{IsAskable, IsAlone, IsDelivered, answer_body}
+use Rattle.process_laws.specs.Connections.{IsAskable, IsAlone, IsListed, IsDelivered, answer_body}
 
 -- at the Sentinel that is asked, the address of a question is in the list of the question's master alone
 abbrev pub IsOfOneMaster : Plan → (question : Body) → Type 0
 IsOfOneMaster plan (Ask m addr epoch candidate) = IsAlone plan m addr
 IsOfOneMaster plan question = Unit {0}
+
+-- it is in the list of the question's master, and may be in others
+abbrev pub IsOfItsMaster : Plan → (question : Body) → Type 0
+IsOfItsMaster plan (Ask m addr epoch candidate) = IsListed plan m addr
+IsOfItsMaster plan question = Unit {0}
 
 -- a run id that an answer tells of is one, as every value of its type is
 abbrev pub TellsOfRunId : (answer : Body) → Type 0

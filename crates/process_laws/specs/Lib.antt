@@ -8,12 +8,16 @@ pub mod TwoProcesses
 pub mod Connections
 pub mod SharedConnections
 pub mod HeardAnswers
+pub mod Asking
 pub mod Openings
 pub mod OwnActions
 pub mod Connected
+pub mod ReadFiles
 pub mod PutOff
 pub mod CarriedPieces
 pub mod FilesLeft
 pub mod TwoConnected
 pub mod Watched
 pub mod PortCalls
+pub mod Meanwhile
+pub mod Logins

@@ -12,7 +12,7 @@ use Rattle.links.specs.declared.sessions.questions.Question.{Question}
 use Rattle.links.specs.declared.speaking.Login.{Login}
 use Rattle.links.specs.declared.speaking.Login.TheVariants.{Without}
 use Rattle.links.specs.Sessions.Links.{question_of, Tells, IsHeard}
-use Rattle.links.specs.Sessions.LongValues.{LinkParts}
+use Rattle.resp2.specs.Long.LongValues.{LongParts}
 use Rattle.links.specs.Speaking.{login_questions, id_bytes, id_questions}
 use Rattle.node_texts.specs.Messages.MessageTexts.{message_bytes}
 use Rattle.pubsub.specs.Listening.{is_listening}
@@ -51,7 +51,7 @@ pub record IsConnectedAnew (start : World) (g : Guest) (login : Login) (id : Run
   pub put_out : flat_map spelling greeting ++ bytes ≡ came ++ not_yet_come
   pub replies : List Frame
   pub held : List ℕ
-  pub read : LinkParts came replies held
+  pub read : LongParts came replies held
   pub left : List Question
   pub tells : Tells (SentinelAt start.plan.place) false (login_questions login ++ (id_questions (Some id) ++ map question_of questions)) replies events left
 

@@ -10,7 +10,7 @@ use Rattle.courteous_sessions.specs.Epochs.{heard_as}
 use Rattle.courteous_sessions.specs.Visits.{Guest, IsAnswered, Tells as TellsClient}
 use Rattle.links.specs.declared.sessions.questions.Question.{Question}
 use Rattle.links.specs.Sessions.Links.{question_of, Tells, IsHeard}
-use Rattle.links.specs.Sessions.LongValues.{LinkParts}
+use Rattle.resp2.specs.Long.LongValues.{LongParts}
 use Rattle.node_texts.specs.Messages.MessageTexts.{message_bytes}
 use Rattle.pubsub.specs.Listening.{is_listening}
 use Rattle.resp2.specs.Commands.{command_of}
@@ -61,7 +61,7 @@ pub record IsConnectedBeside (start : World) (g : Guest) (questions : List Body)
   pub put_out : bytes ≡ came ++ not_yet_come
   pub replies : List Frame
   pub held : List ℕ
-  pub read : LinkParts came replies held
+  pub read : LongParts came replies held
   pub left : List Question
   pub tells : Tells (SentinelAt start.plan.place) false (map question_of questions) replies events left
 

@@ -10,8 +10,8 @@ use Rattle.ballot_law.specs.Rosters.{Roster, size, id_of, HasDistinctIds}
 use Rattle.ballot_law.specs.Worlds.{World as Group, IsFree}
 use Rattle.links.specs.declared.sessions.questions.Question.{Question}
 use Rattle.links.specs.Sessions.Links.{Tells as LinkTells}
-use Rattle.links.specs.Sessions.LongValues.{LinkParts}
 use Rattle.resp2.specs.Framing.Frame.{Frame}
+use Rattle.resp2.specs.Long.LongValues.{LongParts}
 use Rattle.sentinel_cell.specs.declared.entry.Entry.{Entry}
 use Rattle.sentinel_cell.specs.Histories.{World}
 use Rattle.sentinel_rules.specs.Ignored.{is_noticed}
@@ -38,7 +38,7 @@ pub record IsToldThere (stood : List Connection) (event : Event) : Type 0 where
   pub stands : IsAmong on stood
   pub values : List Frame
   pub rest : List ℕ
-  pub parts : LinkParts on.came values rest
+  pub parts : LongParts on.came values rest
   pub before : List Event
   pub after : List Event
   pub left : List Question

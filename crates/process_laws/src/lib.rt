@@ -17,6 +17,7 @@ pub use laws::{
 };
 pub use link_laws::{
     law_answers_are_about_it, law_answers_are_delivered, law_delivered_answers_are_heard,
+    law_questions_are_alone, law_read_files_keep_masters_apart, law_released_words_are_askable,
     law_senders_are_free, law_targets_are_free,
 };
 pub use list_laws::{
@@ -24,6 +25,6 @@ pub use list_laws::{
     law_own_lists_are_a_run, law_own_lists_are_a_start,
 };
 pub use shared_laws::{
-    law_later_questions_wait, law_new_connections_deliver, law_pieces_are_a_connection,
-    law_shared_answers_are_delivered,
+    law_calls_between_are_later, law_later_questions_wait, law_logins_have_one_answer,
+    law_new_connections_deliver, law_pieces_are_a_connection, law_shared_answers_are_delivered,
 };

@@ -1,5 +1,7 @@
 //! The two ends of a connection to a port with courtesies, whose thread has other connections too.
 
+ghost use Rattle.process_laws.specs.Logins.{LoginsHaveOneAnswer};
+ghost use Rattle.process_laws.specs.Meanwhile.{CallsBetweenAreLater};
 ghost use Rattle.process_laws.specs.Openings.{NewConnectionsDeliver, PiecesAreANewConnection};
 ghost use Rattle.process_laws.specs.SharedConnections.{LaterQuestionsWait, PiecesAreAConnection};
 ghost use Rattle.process_laws.specs.SharedConnections.{SharedAnswersAreDelivered};
@@ -17,6 +19,19 @@ pub fn law_shared_answers_are_delivered()
 /// the pieces as one.
 pub fn law_later_questions_wait()
     ensures { LaterQuestionsWait }
+{}
+
+/// Whatever calls a port's thread makes between two values of a connection, the connection's seat has then seen more,
+/// and of that on which its next answer rests nothing else changed but what it was told: so what these laws ask between
+/// two values follows from the contracts of those calls.
+pub fn law_calls_between_are_later()
+    ensures { CallsBetweenAreLater }
+{}
+
+/// A login is answered by one value, and takes no turn; where its words are what the port wants, no password is owed
+/// then.
+pub fn law_logins_have_one_answer()
+    ensures { LoginsHaveOneAnswer }
 {}
 
 /// A connection whose bytes came in pieces is one of which `law_shared_answers_are_delivered` speaks: each piece taken
