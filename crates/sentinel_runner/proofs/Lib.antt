@@ -1,2 +1,3 @@
 mod Cutting
 pub mod Opening
+mod Watches

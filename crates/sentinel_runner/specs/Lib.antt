@@ -2,3 +2,4 @@ pub mod Faults
 pub mod Groups
 pub mod Opening
 pub mod Orders
+pub mod Watches

@@ -9,11 +9,11 @@ use crate::group_fault::{GroupFault, OrderedFault};
 use crate::node_parts::{ServesNodes, WithoutPorts};
 use crate::opened::{PortSettings, room_of};
 use crate::orders::{FollowsOrders, NetOrders, Orders, ReadFailed};
-use crate::port_parts::end_for_want;
 use crate::restarts::Restarts;
 use crate::shared::Shared;
 use crate::started::Started;
 use crate::stop_flags::StopFlags;
+use crate::threads::end_for_want;
 use channel_transport::{DataNodes, Links, NodeOrder, SharedNodes};
 use client_port::ReadsTimes;
 use conf_check::is_one_group;
@@ -83,7 +83,9 @@ impl<S: ConfStore + Drop> Group<S> {
     /// Opens each Sentinel with the store at its place in the list, and its port for one thread, strict, and makes the
     /// data nodes of the roster and the links.
     ///
-    /// `NotOneRoster` comes exactly where the confs aren't those of one group, or there is another number of stores.
+    /// `NotOneRoster` comes exactly where the confs aren't those of one group, or there is another number of stores;
+    /// `PortRefused` where a port can't be had, or the process has too few descriptors for any connection; and
+    /// `NoMemory`.
     pub fn open<R: Net + Clock + Log>(
         rt: &R,
         alloc: Global,
@@ -169,6 +171,9 @@ impl<S: ConfStore + Drop> Group<S> {
 
 impl<S: ConfStore + Drop + Send> Group<S> {
     /// Runs each Sentinel and the data nodes until `ending` isn't 0. The stores are gone then.
+    ///
+    /// `NoMemory` where a thread couldn't be made, which ends all; else `PortRefused` where a port couldn't serve its
+    /// clients any more, and else `Halted` where a Sentinel was halted: `NotOneRoster` never comes.
     pub fn run<R: Threads + Wait + Clock + ReadsTimes + Log + Sync>(
         self,
         rt: &R,
@@ -207,7 +212,8 @@ impl<S: ConfStore + Drop + Send> Group<S> {
     /// Runs each Sentinel and the data nodes, and obeys the lines of the input until its end, which ends the group. The
     /// stores are gone then.
     ///
-    /// `Read` where the input couldn't be read to its end and nothing of the group was at fault.
+    /// `Group` with a fault of `run`; `Read` where the input couldn't be read to its end and nothing of the group was
+    /// at fault.
     pub fn run_by_orders<I: Read, R: Threads + Wait + Net + Clock + ReadsTimes + Log + Sync>(
         self,
         rt: &R,

@@ -30,7 +30,8 @@ pub enum Unloaded<S> {
 }
 
 impl<S: ConfStore + Drop> LoadedConf<S> {
-    /// Loads the text of a store, and reads it.
+    /// Loads the text of a store, and reads it. The store comes back where it can't be read, and is gone at any other
+    /// fault.
     pub fn load(alloc: Global, mut store: S) -> Result<LoadedConf<S>, Unloaded<S>>
         requires room { S.failure_count store < 2 ^ 64 - 1 }
         ensures kept { IfOk result (λ loaded. S.held loaded.store ≡ S.held store) }

@@ -3,7 +3,7 @@
 
 use crate::group_fault::GroupFault;
 use crate::opened::fault_of;
-use crate::port_parts::note_lost;
+use crate::threads::note_lost;
 use ballot_law::{Addr, Info, Roster};
 use channel_transport::SharedNodes;
 use data_node_port::{NodePorts, ShownNodes};

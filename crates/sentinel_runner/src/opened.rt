@@ -9,10 +9,10 @@ ghost use Rattle.sentinel_runner.specs.declared.group_fault.GroupFault.TheVarian
 use crate::group_fault::GroupFault;
 use client_port::{Port, PortRoom, connections_beside};
 use log::{Log, warn};
-use sentinel_cell::{Seat, SharedSentinel};
 use sentinel_conf::{Conf, ConfStore};
 use sentinel_core::Sentinel;
 use sentinel_rules::Profile;
+use sentinel_runtime::FreshSentinel;
 use std::alloc::Global;
 use std::io::{self, ErrorKind};
 use std::net::Net;
@@ -41,20 +41,18 @@ impl PortSettings {
     }
 }
 
-/// A Sentinel that is open, with its first seat, its place in the roster, what each thread of its port serves, and that
-/// port's number. So many threads use it `beside` those of its port.
+/// A Sentinel that is open, of which nothing was asked yet, its place in the roster, what each thread of its port
+/// serves, and that port's number. So many threads use it `beside` those of its port.
 #[derive(Drop)]
 pub(crate) struct Opened<S: ConfStore> {
-    pub(crate) cell: SharedSentinel<S>,
-    pub(crate) seat: Seat,
+    pub(crate) fresh: FreshSentinel<S>,
     pub(crate) place: u16,
     pub(crate) port: Port,
     pub(crate) others: Vec<Port>,
     pub(crate) port_threads: u16,
     pub(crate) number: u16,
     pub(crate) beside: u16,
-    ghost own: { seat.cell ≡ cell.id },
-    ghost seats: { seat.view.share ≡ length others.items + 1 + beside },
+    ghost seats: { fresh.seat.view.share ≡ length others.items + 1 + beside },
 }
 
 /// With what a Sentinel is opened, beside its port.
@@ -118,7 +116,7 @@ impl<S: ConfStore + Drop> Opened<S> {
         requires room { S.failure_count store < 2 ^ 64 - 1 }
         ensures roster { IfErr result (λ fault. fault ≢ NotOneRoster) }
         ensures seats { IfOk result (λ opened. opened.beside ≡ beside) }
-        ensures start { IfOk result (λ opened. IsOpenedBy conf room.profile [] 0 (S.held store) opened.cell.start) }
+        ensures start { IfOk result (λ opened. IsOpenedBy conf room.profile [] 0 (S.held store) opened.fresh.cell.start) }
     {
         let number = conf.port();
         match Port::open(rt, alloc, number, room) {
@@ -155,7 +153,7 @@ impl<S: ConfStore + Drop> Opened<S> {
         ensures roster { IfErr result (λ fault. fault ≢ NotOneRoster) }
         ensures seats { IfOk result (λ opened. opened.beside ≡ beside) }
         ensures start { IfOk result (λ opened. IsOpenedBy beginning.conf room.profile beginning.reboots.items
-            beginning.now (S.held beginning.store) opened.cell.start) }
+            beginning.now (S.held beginning.store) opened.fresh.cell.start) }
     {
         let OpenedWith {
             conf,
@@ -170,12 +168,11 @@ impl<S: ConfStore + Drop> Opened<S> {
         };
         let threads = room.threads();
         let seats = u64::from(threads) + u64::from(beside);
-        let Ok((cell, seat)) = SharedSentinel::new(alloc, sentinel, store, seats) else {
+        let Ok(fresh) = FreshSentinel::new(alloc, sentinel, store, seats) else {
             return Err(GroupFault::NoMemory);
         };
         Ok(Opened {
-            cell,
-            seat,
+            fresh,
             place,
             port,
             others,

@@ -8,7 +8,7 @@ use sentinel_conf::WatchConf;
 use std::alloc::{AllocError, Global};
 
 /// For how many milliseconds each master of this roster may load its data after a restart until it counts as down, in
-/// their order, as the lines of a file say it; 0, as without a line, is for ever.
+/// their order, as the lines of a file say it; 0, as without a line, is for ever. The error is a refused allocation.
 pub fn reboots_of(alloc: Global, roster: &Roster, watch: &WatchConf) -> Result<Vec<u64>, AllocError>
     ensures { IfOk result (λ reboots. reboots.items ≡ reboots_in watch.now roster.now) }
 {

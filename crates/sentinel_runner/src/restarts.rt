@@ -8,9 +8,9 @@ ghost use Rattle.std.specs.Prelude.{◌≡◌, ◌<◌, ◌-◌, ◌^◌, ◌+�
 ghost use Rattle.sentinel_runner.specs.declared.started.TheConstants.{BESIDE};
 
 use crate::opened::{Opened, OpenedWith};
-use crate::port_parts::end_for_want;
 use crate::shared::Shared;
 use crate::started::BESIDE;
+use crate::threads::end_for_want;
 use ballot_law::Roster;
 use client_port::{Port, PortRoom};
 use conf_lines::ConfFault;

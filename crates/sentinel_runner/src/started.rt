@@ -9,33 +9,30 @@ ghost use Rattle.sentinel_runner.specs.declared.started.TheConstants.{BESIDE};
 ghost use Rattle.sentinel_runner.specs.declared.group_fault.GroupFault.TheVariants.{NotOneRoster};
 
 use crate::group_fault::GroupFault;
-use crate::opened::{Opened, PORT_THREADS_MAX};
-use crate::port_parts::{
-    Back, PortPart, ServesPort, end_for_want, end_of, none_for_want, parts_of, serve_parts,
-};
+use crate::opened::Opened;
 use crate::restarts::{LifeEnds, Restart, Restarts, Resting};
 use crate::shared::Shared;
+use crate::threads::{
+    Ending, Part, Work, close, end_for_want, none_for_want, parts_of, run_parts, serve_port,
+};
 use channel_transport::{Delivery, Links, run_link, run_timer};
 use client_port::{Port, ReadsTimes};
-use crossbeam_channel::{Receiver, RecvTimeoutError, Sender, unbounded};
+use crossbeam_channel::{Receiver, RecvTimeoutError};
 use log::Log;
 use sentinel_cell::Keeper;
 use sentinel_conf::{Conf, ConfStore};
-use sentinel_runtime::{RunState, RunningSentinel, ThreadSeat, Which};
+use sentinel_runtime::{RunningSentinel, ThreadSeat, Which};
 use std::alloc::{AllocError, Global};
-use std::marker::Brand;
+use std::marker::{Brand, PhantomData};
 use std::net::Net;
 use std::rt::Clock;
 use std::sync::Wait;
 use std::sync::atomic::{AtomicU64, Ordering};
-use std::thread::{self, Threads};
+use std::thread::Threads;
 use std::time::Duration;
 
 /// How many threads use a Sentinel beside those of its port: its timer and its link.
 pub(crate) const BESIDE: u16 = 2;
-
-/// How many seats threads hand back at most.
-const SEATS_MAX: u16 = PORT_THREADS_MAX + BESIDE;
 
 /// How long a Sentinel that is stopped waits to be started before it looks whether the group ends, in milliseconds.
 const START_MS: u64 = 50;
@@ -121,15 +118,13 @@ impl<S: ConfStore + Drop> Life<S> {
         self,
         rt: &R,
         alloc: Global,
-        state: &RunState,
-        links: &Links,
+        shared: &Shared,
         stop: &AtomicU64,
     ) -> Option<Left<S>>
     where
         S: Send,
     {
-        let Life { opened, deliveries } = self;
-        run_named::<Brand, S, R>(rt, alloc, state, links, opened, deliveries, stop)
+        run_named::<Brand, S, R>(rt, alloc, shared, self, stop)
     }
 }
 
@@ -177,7 +172,7 @@ impl<S: ConfStore + Drop> Started<S> {
             let Some(life) = next.take() else {
                 return;
             };
-            let left = life.run(rt, alloc, &shared.state, &shared.links, stop);
+            let left = life.run(rt, alloc, shared, stop);
             if ending.load(Ordering::SeqCst) != 0 {
                 return;
             }
@@ -189,67 +184,25 @@ impl<S: ConfStore + Drop> Started<S> {
     }
 }
 
-/// The seats that threads handed back, and the end of their Sentinel's channel, where it came. None without memory for
-/// them.
-pub(crate) fn come_back<J: Which, R: Wait>(
-    rt: &R,
-    alloc: Global,
-    back: &Receiver<Back<J>>,
-) -> Option<(Vec<ThreadSeat<J>>, Option<Receiver<Delivery>>)> {
-    let mut seats = Vec::new(alloc);
-    let mut end = None;
-    for _ in 0..SEATS_MAX {
-        match back.try_recv(rt) {
-            Ok(Back::Seat(seat)) => seats.push(seat).ok()?,
-            Ok(Back::Link(seat, deliveries)) => {
-                seats.push(seat).ok()?;
-                end = Some(deliveries);
-            }
-            Err(_) => break,
-        }
-    }
-    Some((seats, end))
-}
-
-/// Ends a Sentinel whose threads have ended: what is left of it, where they handed all back.
-fn close<J: Which, S: ConfStore + Drop, R: Wait>(
-    rt: &R,
-    alloc: Global,
-    member: RunningSentinel<J, S>,
-    back: &Receiver<Back<J>>,
-) -> Option<Left<S>> {
-    let (seats, deliveries) = come_back(rt, alloc, back)?;
-    let deliveries = deliveries?;
-    let Keeper { sentinel, store } = member.close(seats)?;
-    drop(sentinel);
-    Some(Left { store, deliveries })
-}
-
 /// Runs the threads of a Sentinel that has a name for proofs: what is left of it. None where a thread or its room
 /// couldn't be made.
-///
-/// Many parameters: a thread takes its own parts by value, and they have several lifetimes, so no one struct holds
-/// them.
 fn run_named<J: Which + Send + Sync, S: ConfStore + Drop + Send, R>(
     rt: &R,
     alloc: Global,
-    state: &RunState,
-    links: &Links,
-    opened: Opened<S>,
-    deliveries: Receiver<Delivery>,
+    shared: &Shared,
+    life: Life<S>,
     stop: &AtomicU64,
 ) -> Option<Left<S>>
 where
     R: Threads + Wait + Clock + ReadsTimes + Log + Sync,
-    requires named { opened.cell.id ≡ J.cell }
-    requires says { (message : Message) → IsReleased opened.cell.start message → ∥ J.said message ∥₁ }
-    requires notes { (note : Note) (number : ℕ) → IsNoted opened.cell.start note number → ∥ J.noted note number ∥₁ }
+    requires named { life.opened.fresh.cell.id ≡ J.cell }
+    requires says { (message : Message) → IsReleased life.opened.fresh.cell.start message → ∥ J.said message ∥₁ }
+    requires notes { (note : Note) (number : ℕ) → IsNoted life.opened.fresh.cell.start note number → ∥ J.noted note number ∥₁ }
     requires told { (event : Event) → ∥ J.told event ∥₁ }
-    requires seats { opened.beside ≡ BESIDE }
 {
+    let Life { opened, deliveries } = life;
     let Opened {
-        cell,
-        seat,
+        fresh,
         place,
         port,
         others,
@@ -257,187 +210,105 @@ where
         number,
         beside: _,
     } = opened;
-    let made = RunningSentinel::<J, S>::with_seat(alloc, cell, seat, place, number, port_threads);
+    let made = RunningSentinel::<J, S>::with_seat(alloc, fresh, place, number, port_threads);
     let Ok((member, seat)) = made else {
-        return none_for_want(state, stop);
+        return none_for_want(&shared.state, stop);
     };
-    let Ok((seated, back)) = Seated::of(alloc, &member, seat, (port, others), deliveries) else {
-        return none_for_want(state, stop);
+    let Ok((mut parts, back)) = life_parts(alloc, &member, seat, (port, others)) else {
+        return none_for_want(&shared.state, stop);
     };
-    let Seated {
-        timer,
-        link,
-        first,
-        others,
-    } = seated;
-    let parts = Parts {
-        timer: LinkedPart::Timer(timer),
-        link: LinkedPart::Link(link),
-        first,
-        others,
+    let Some(own) = parts.pop() else {
+        unreachable!()
     };
-    run_threads(rt, state, links, &member, parts, stop);
-    close(rt, alloc, member, &back)
+    let life = LifeOf {
+        member: &member,
+        shared,
+        deliveries: &deliveries,
+        stop,
+    };
+    run_parts(rt, &life, parts, own);
+    let Keeper { sentinel, store } = close(rt, alloc, member, &back)?;
+    drop(sentinel);
+    Some(Left { store, deliveries })
 }
 
-/// What the thread of the ticks has, and where it hands its seat back.
+/// A Sentinel that may be told whatever comes for it.
 #[derive(Drop)]
-struct TimerPart<J: Which> {
-    seat: ThreadSeat<J>,
-    back: Sender<Back<J>>,
-}
-
-/// What the thread of the link has, and where it hands that back.
-#[derive(Drop)]
-struct LinkPart<J: Which> {
-    seat: ThreadSeat<J>,
-    deliveries: Receiver<Delivery>,
-    back: Sender<Back<J>>,
+struct HearsAll<J: Which> {
+    of: PhantomData<J>,
     ghost told: { (event : Event) → ∥ J.told event ∥₁ },
 }
 
-/// What a thread of a Sentinel has that uses its links.
+/// What a thread of a Sentinel of a group does.
 #[derive(Drop)]
-enum LinkedPart<J: Which> {
-    /// That of the ticks.
-    Timer(TimerPart<J>),
-    /// That of the link.
-    Link(LinkPart<J>),
+enum LifeTask<J: Which> {
+    /// It ticks.
+    Timer,
+    /// It takes what comes on the links.
+    Link(HearsAll<J>),
+    /// It serves the port.
+    Port(Port),
 }
 
-/// What a thread of such a Sentinel does that uses its links. By this trait `run_threads` knows of a part no more than
-/// that it may be sent.
-trait UsesLinks<M> {
-    /// Does its work until `ending` isn't 0, or the Sentinel is halted.
-    fn run<R: Wait + Clock + Log>(
-        self,
-        rt: &R,
-        state: &RunState,
-        links: &Links,
-        member: &M,
-        ending: &AtomicU64,
-    );
-}
-
-impl<J: Which, S: ConfStore> UsesLinks<RunningSentinel<J, S>> for LinkedPart<J> {
-    fn run<R: Wait + Clock + Log>(
-        self,
-        rt: &R,
-        state: &RunState,
-        links: &Links,
-        member: &RunningSentinel<J, S>,
-        ending: &AtomicU64,
-    ) {
-        match self {
-            LinkedPart::Timer(part) => {
-                let TimerPart { mut seat, back } = part;
-                run_timer(rt, state, links, member, &mut seat, ending);
-                drop(back.send(rt, Back::Seat(seat)));
-            }
-            LinkedPart::Link(part) => {
-                let LinkPart {
-                    mut seat,
-                    deliveries,
-                    back,
-                } = part;
-                run_link(rt, state, links, member, &mut seat, &deliveries, ending);
-                drop(back.send(rt, Back::Link(seat, deliveries)));
-            }
-        }
+impl<J: Which> From<Port> for LifeTask<J> {
+    fn from(port: Port) -> LifeTask<J> {
+        LifeTask::Port(port)
     }
 }
 
-/// The threads of a Sentinel, each with its seat.
-#[derive(Drop)]
-struct Seated<J: Which> {
-    timer: TimerPart<J>,
-    link: LinkPart<J>,
-    first: PortPart<J>,
-    others: Vec<PortPart<J>>,
-}
-
-impl<J: Which> Seated<J> {
-    /// Cuts the seat of the Sentinel into one for each thread, and the end at which the threads hand them back.
-    fn of<S: ConfStore>(
-        alloc: Global,
-        member: &RunningSentinel<J, S>,
-        seat: ThreadSeat<J>,
-        ports: (Port, Vec<Port>),
-        deliveries: Receiver<Delivery>,
-    ) -> Result<(Seated<J>, Receiver<Back<J>>), AllocError>
-        requires share { seat.seat.view.share ≡ length ports.1.items + 1 + BESIDE }
-        requires told { (event : Event) → ∥ J.told event ∥₁ }
-    {
-        let (port, ports) = ports;
-        let (back, backs) = unbounded(alloc)?;
-        let mut seats = member.seats(alloc, seat)?;
-        let (Some(timer), Some(link), Some(seat)) = (seats.pop(), seats.pop(), seats.pop()) else {
-            unreachable!()
-        };
-        let timer = TimerPart {
-            seat: timer,
-            back: back.clone()?,
-        };
-        let link = LinkPart {
-            seat: link,
-            deliveries,
-            back: back.clone()?,
-        };
-        let back = Some(back);
-        let first = PortPart {
-            port,
-            seat,
-            back: end_of(&back)?,
-        };
-        let seated = Seated {
-            timer,
-            link,
-            first,
-            others: parts_of(alloc, ports, seats, &back)?,
-        };
-        Ok((seated, backs))
-    }
-}
-
-/// What each thread of a Sentinel has.
-#[derive(Drop)]
-struct Parts<L, P> {
-    timer: L,
-    link: L,
-    first: P,
-    others: Vec<P>,
-}
-
-/// Starts the timer and the link, and serves the port.
-fn run_threads<'a, M: Sync, L, P, R>(
-    rt: &'a R,
-    state: &'a RunState,
-    links: &'a Links,
-    member: &'a M,
-    parts: Parts<L, P>,
-    ending: &'a AtomicU64,
-)
-where
-    L: UsesLinks<M> + Drop + Send,
-    P: ServesPort<M, R> + Drop + Send,
-    R: Threads + Wait + Clock + Log + Sync,
+/// Its threads, of which the last one is the first one of the port.
+fn life_parts<J: Which, S: ConfStore>(
+    alloc: Global,
+    member: &RunningSentinel<J, S>,
+    seat: ThreadSeat<J>,
+    ports: (Port, Vec<Port>),
+) -> Result<(Vec<Part<J, LifeTask<J>>>, Receiver<ThreadSeat<J>>), AllocError>
+    requires share { seat.seat.view.share ≡ length ports.1.items + 1 + BESIDE }
+    requires told { (event : Event) → ∥ J.told event ∥₁ }
+    ensures { IfOk result (λ r. length r.0.items ≡ length ports.1.items + 1 + BESIDE) }
 {
-    let Parts {
-        timer,
-        link,
-        first,
-        others,
-    } = parts;
-    thread::scope(thread::scope_env(), rt, |scope| {
-        let mut refused = scope
-            .spawn(move || timer.run(rt, state, links, member, ending))
-            .is_err();
-        refused |= scope
-            .spawn(move || link.run(rt, state, links, member, ending))
-            .is_err();
-        if refused {
-            return end_for_want(state, ending);
+    let link = LifeTask::Link(HearsAll { of: PhantomData });
+    let beside = vec![in alloc; LifeTask::Timer, link]?;
+    parts_of(alloc, member, seat, beside, ports)
+}
+
+/// What the threads of a Sentinel of a group share.
+#[derive(Clone, Copy)]
+struct LifeOf<'a, J: Which, S: ConfStore> {
+    member: &'a RunningSentinel<J, S>,
+    shared: &'a Shared,
+    deliveries: &'a Receiver<Delivery>,
+    stop: &'a AtomicU64,
+}
+
+impl<J: Which, S: ConfStore> Ending for LifeOf<'_, J, S> {
+    fn end_for_want(&self) {
+        end_for_want(&self.shared.state, self.stop);
+    }
+}
+
+impl<J: Which, S: ConfStore, R: Wait + Clock + ReadsTimes + Log> Work<LifeOf<'_, J, S>, R>
+    for Part<J, LifeTask<J>> {
+    fn work(self, rt: &R, life: &LifeOf<'_, J, S>) {
+        let Part {
+            task,
+            mut seat,
+            back,
+        } = self;
+        let LifeOf {
+            member,
+            shared,
+            deliveries,
+            stop,
+        } = *life;
+        let (state, links) = (&shared.state, &shared.links);
+        match task {
+            LifeTask::Timer => run_timer(rt, state, links, member, &mut seat, stop),
+            LifeTask::Link(HearsAll { of: _ }) => {
+                run_link(rt, state, links, member, &mut seat, deliveries, stop)
+            }
+            LifeTask::Port(port) => serve_port(rt, state, member, &mut seat, port, stop),
         }
-        serve_parts(rt, state, member, first, others, ending);
-    })
+        drop(back.send(rt, seat));
+    }
 }

@@ -17,13 +17,12 @@ use crate::group::outcome;
 use crate::group_fault::GroupFault;
 use crate::loaded_conf::LoadedConf;
 use crate::opened::{Opened, OpenedWith, PortSettings, fault_of};
-use crate::port_parts::{
-    Back, PortPart, ServesPort, end_for_want, end_of, none_for_want, note_lost, parts_of,
-    serve_parts,
+use crate::threads::{
+    Ending, Part, Work, close, end_for_want, none_for_want, note_lost, parts_of, run_parts,
+    serve_port,
 };
-use crate::started::come_back;
 use client_port::{Admission, Port, PortAddress, PortRoom, ReadsTimes, Sockets, seats_beside};
-use crossbeam_channel::{Receiver, Sender, unbounded};
+use crossbeam_channel::Receiver;
 use links::connection_count;
 use log::{Log, info, warn};
 use sentinel_cell::Keeper;
@@ -36,10 +35,9 @@ use std::net::Net;
 use std::rt::Clock;
 use std::sync::Wait;
 use std::sync::atomic::{AtomicU64, Ordering};
-use std::thread::{self, Threads};
+use std::thread::Threads;
 use tcp_transport::{
-    Connections, Connects, Logins, NetSockets, PlannedConnections, SentinelEnd, TickLoop,
-    WatchState,
+    Connections, Connects, Logins, NetSockets, PlannedConnections, TickLoop, WatchState,
 };
 
 /// How many threads use a Sentinel beside those of its port: that of its ticks.
@@ -200,7 +198,7 @@ fn opened_of<S: ConfStore + Drop>(
     requires threads { length ports.1.items + 1 ≡ room.threads }
     ensures roster { IfErr result (λ fault. fault ≢ NotOneRoster) }
     ensures seats { IfOk result (λ opened. opened.beside ≡ BESIDE) }
-    ensures start { IfOk result (λ opened. IsOpenedAnew conf room.profile reboots.items 0 opened.cell.start) }
+    ensures start { IfOk result (λ opened. IsOpenedAnew conf room.profile reboots.items 0 opened.fresh.cell.start) }
 {
     prove_store(alloc, &conf, &mut store)?;
     let beginning = OpenedWith {
@@ -229,9 +227,9 @@ impl<S: ConfStore + Drop> Watch<S> {
     ) -> Result<Watch<S>, GroupFault>
         requires { S.failure_count loaded.store < 2 ^ 64 - 1 }
         ensures held { IfOk result (λ watch. IfSome (S.held loaded.store)
-            (λ bytes. conf_of_bytes bytes ≡ Ok watch.watching.opened.cell.start.plan.conf)) }
+            (λ bytes. conf_of_bytes bytes ≡ Ok watch.watching.opened.fresh.cell.start.plan.conf)) }
         ensures start { IfOk result (λ watch. IsOpenedAnew loaded.conf settings.port.profile settings.reboots.items 0
-            watch.watching.opened.cell.start) }
+            watch.watching.opened.fresh.cell.start) }
         ensures roster { IfErr result (λ fault. fault ≢ NotOneRoster) }
     {
         let WatchSettings {
@@ -276,7 +274,7 @@ impl<S: ConfStore + Drop> Watch<S> {
     ) -> (Option<Keeper<S>>, Result<(), GroupFault>)
     where
         S: Send,
-        ensures left { IfSome result.0 (IsLeftByTurns S.held S.failure_count self.watching.opened.cell.start) }
+        ensures left { IfSome result.0 (IsLeftByTurns (λ event. Unit {0}) S.held S.failure_count self.watching.opened.fresh.cell.start) }
         ensures ok { OnOk result.1 (IsSome result.0) }
         ensures roster { IfErr result.1 (λ fault. fault ≢ NotOneRoster) }
     {
@@ -313,11 +311,11 @@ fn run_named<J: Which + Send + Sync, S: ConfStore + Drop + Send, R, N: Net>(
 ) -> Option<Keeper<S>>
 where
     R: Threads + Wait + Clock + ReadsTimes + Log + Sync,
-    requires named { watching.opened.cell.id ≡ J.cell }
-    requires says { (message : Message) → IsReleased watching.opened.cell.start message → ∥ J.said message ∥₁ }
-    requires notes { (note : Note) (number : ℕ) → IsNoted watching.opened.cell.start note number → ∥ J.noted note number ∥₁ }
+    requires named { watching.opened.fresh.cell.id ≡ J.cell }
+    requires says { (message : Message) → IsReleased watching.opened.fresh.cell.start message → ∥ J.said message ∥₁ }
+    requires notes { (note : Note) (number : ℕ) → IsNoted watching.opened.fresh.cell.start note number → ∥ J.noted note number ∥₁ }
     requires told { (event : Event) → ∥ J.told event ∥₁ }
-    ensures { IfSome result (IsLeftByTurns S.held S.failure_count watching.opened.cell.start) }
+    ensures { IfSome result (IsLeftByTurns J.told S.held S.failure_count watching.opened.fresh.cell.start) }
 {
     run_over::<J, S, NetSockets<'_, J, N>, R>(rt, NetSockets::of(net), state, watching, wires)
 }
@@ -334,15 +332,14 @@ fn run_over<J: Which + Send + Sync, S: ConfStore + Drop + Send, C: Connects<J> +
 ) -> Option<Keeper<S>>
 where
     R: Threads + Wait + Clock + ReadsTimes + Log + Sync,
-    requires named { watching.opened.cell.id ≡ J.cell }
-    requires says { (message : Message) → IsReleased watching.opened.cell.start message → ∥ J.said message ∥₁ }
-    requires notes { (note : Note) (number : ℕ) → IsNoted watching.opened.cell.start note number → ∥ J.noted note number ∥₁ }
-    ensures { IfSome result (IsLeftByTurns S.held S.failure_count watching.opened.cell.start) }
+    requires named { watching.opened.fresh.cell.id ≡ J.cell }
+    requires says { (message : Message) → IsReleased watching.opened.fresh.cell.start message → ∥ J.said message ∥₁ }
+    requires notes { (note : Note) (number : ℕ) → IsNoted watching.opened.fresh.cell.start note number → ∥ J.noted note number ∥₁ }
+    ensures { IfSome result (IsLeftByTurns J.told S.held S.failure_count watching.opened.fresh.cell.start) }
 {
     let Watching { opened, alloc } = watching;
     let Opened {
-        cell,
-        seat,
+        fresh,
         place,
         port,
         others,
@@ -350,7 +347,7 @@ where
         number,
         beside: _,
     } = opened;
-    let made = RunningSentinel::<J, S>::with_seat(alloc, cell, seat, place, number, port_threads);
+    let made = RunningSentinel::<J, S>::with_seat(alloc, fresh, place, number, port_threads);
     let Ok((member, seat)) = made else {
         return none_for_want(&state.run, &state.ending);
     };
@@ -362,175 +359,89 @@ where
         }
     };
     far.guard(&member);
-    let Ok((parts, back)) = seated(alloc, &member, seat, far, (port, others)) else {
+    let ticks = TickLoop::new(alloc, &member, far, state.run.clock.now(rt));
+    let Ok((parts, back)) = watch_parts(alloc, &member, seat, ticks, (port, others)) else {
         return none_for_want(&state.run, &state.ending);
     };
-    let mut wires = OpenWires { wires };
-    run_parts(rt, state, &member, parts, &mut wires);
-    left_of(rt, alloc, member, &back)
+    let watch = WatchOf {
+        member: &member,
+        state,
+    };
+    run_parts(rt, &watch, parts, wires);
+    close(rt, alloc, member, &back)
 }
 
-/// What is left of a Sentinel whose threads have ended, where all of them handed their seats back.
-fn left_of<J: Which, S: ConfStore + Drop, R: Wait>(
-    rt: &R,
-    alloc: Global,
-    member: RunningSentinel<J, S>,
-    back: &Receiver<Back<J>>,
-) -> Option<Keeper<S>>
-    ensures { IfSome result (IsLeftByTurns S.held S.failure_count member.cell.start) }
-{
-    let (seats, _) = come_back(rt, alloc, back)?;
-    member.close(seats)
-}
-
-/// What the thread of a Sentinel's ticks has: its end of the connections, its seat, and where it hands that back.
+/// What a thread of a Sentinel of its own does.
 #[derive(Drop)]
-struct TickPart<J: Which> {
-    far: SentinelEnd<J>,
-    seat: ThreadSeat<J>,
-    back: Sender<Back<J>>,
-    alloc: Global,
+enum WatchTask<J: Which> {
+    /// It ticks, and hears what the connections hear.
+    Ticks(TickLoop<J>),
+    /// It serves the port.
+    Port(Port),
 }
 
-/// What the thread of the ticks of such a Sentinel does. By this trait `run_parts` knows of it no more than that it may
-/// be sent.
-trait Ticks<M> {
-    /// Ticks, and hears what the connections hear, until the threads end or the Sentinel is halted. Then the seat goes
-    /// back.
-    fn tick<R: Wait + Clock + Log>(self, rt: &R, state: &WatchState, member: &M);
-}
-
-impl<J: Which, S: ConfStore> Ticks<RunningSentinel<J, S>> for TickPart<J> {
-    fn tick<R: Wait + Clock + Log>(
-        self,
-        rt: &R,
-        state: &WatchState,
-        member: &RunningSentinel<J, S>,
-    ) {
-        let TickPart {
-            far,
-            mut seat,
-            back,
-            alloc,
-        } = self;
-        let mut rounds = TickLoop::new(alloc, member, far, state.run.clock.now(rt));
-        rounds.run(rt, state, member, &mut seat);
-        state.ending.store(1, Ordering::SeqCst);
-        drop(back.send(rt, Back::Seat(seat)));
+impl<J: Which> From<Port> for WatchTask<J> {
+    fn from(port: Port) -> WatchTask<J> {
+        WatchTask::Port(port)
     }
 }
 
-/// Cuts the seat of the Sentinel into one for each thread, with what it does, and the end at which the threads hand the
-/// seats back.
-fn seated<J: Which, S: ConfStore>(
+/// Its threads, beside that of its connections.
+fn watch_parts<J: Which, S: ConfStore>(
     alloc: Global,
     member: &RunningSentinel<J, S>,
     seat: ThreadSeat<J>,
-    far: SentinelEnd<J>,
+    ticks: TickLoop<J>,
     ports: (Port, Vec<Port>),
-) -> Result<(WatchParts<TickPart<J>, PortPart<J>>, Receiver<Back<J>>), AllocError>
+) -> Result<(Vec<Part<J, WatchTask<J>>>, Receiver<ThreadSeat<J>>), AllocError>
     requires { seat.seat.view.share ≡ length ports.1.items + 1 + BESIDE }
 {
-    let (port, ports) = ports;
-    let (back, backs) = unbounded(alloc)?;
-    let mut seats = member.seats(alloc, seat)?;
-    let (Some(ticks), Some(seat)) = (seats.pop(), seats.pop()) else {
-        unreachable!()
-    };
-    let ticks = TickPart {
-        far,
-        seat: ticks,
-        back: back.clone()?,
-        alloc,
-    };
-    let back = Some(back);
-    let first = PortPart {
-        port,
-        seat,
-        back: end_of(&back)?,
-    };
-    let parts = WatchParts {
-        ticks,
-        first,
-        others: parts_of(alloc, ports, seats, &back)?,
-    };
-    Ok((parts, backs))
+    let beside = vec![in alloc; WatchTask::Ticks(ticks)]?;
+    parts_of(alloc, member, seat, beside, ports)
 }
 
-/// What each thread of a Sentinel has beside that of its connections.
-#[derive(Drop)]
-struct WatchParts<T, P> {
-    ticks: T,
-    first: P,
-    others: Vec<P>,
-}
-
-/// Starts the thread of the ticks, and serves the port.
-fn run_beside<'a, M: Sync, T: Ticks<M> + Drop + Send, P: ServesPort<M, R> + Drop + Send, R>(
-    rt: &'a R,
+/// What the threads of a Sentinel of its own share. Where one of them ends, all do.
+#[derive(Clone, Copy)]
+struct WatchOf<'a, J: Which, S: ConfStore> {
+    member: &'a RunningSentinel<J, S>,
     state: &'a WatchState,
-    member: &'a M,
-    parts: WatchParts<T, P>,
-)
-where
-    R: Threads + Wait + Clock + Log + Sync,
-{
-    let WatchParts {
-        ticks,
-        first,
-        others,
-    } = parts;
-    thread::scope(thread::scope_env(), rt, |scope| {
-        let begun = scope.spawn(move || ticks.tick(rt, state, member));
-        if begun.is_err() {
-            return end_for_want(&state.run, &state.ending);
-        }
-        serve_parts(rt, &state.run, member, first, others, &state.ending);
-        state.ending.store(1, Ordering::SeqCst);
-    })
 }
 
-/// The connections of a Sentinel. By this trait `run_parts` knows of them no more than that they run: proofs of what is
-/// sent to a thread stay short.
-trait RunsWires {
-    /// Runs them until the threads end. Where the system no longer tells of them, that is noted.
-    fn run<R: Wait + Clock + Log>(&mut self, rt: &R, state: &WatchState);
-}
-
-/// Connections with their sockets.
-#[derive(Drop)]
-struct OpenWires<J: Which, C: Connects<J>> {
-    wires: Connections<J, C>,
-}
-
-impl<J: Which, C: Connects<J>> RunsWires for OpenWires<J, C> {
-    fn run<R: Wait + Clock + Log>(&mut self, rt: &R, state: &WatchState) {
-        if let Err(error) = self.wires.run(rt, state) {
-            note_lost(&state.run, &error);
-        }
+impl<J: Which, S: ConfStore> Ending for WatchOf<'_, J, S> {
+    fn end_for_want(&self) {
+        end_for_want(&self.state.run, &self.state.ending);
     }
 }
 
-/// Starts the thread of the port, which starts that of the ticks, and runs the connections. When this returns all have
-/// ended.
-fn run_parts<'a, M: Sync, T, P, W: RunsWires, R>(
-    rt: &'a R,
-    state: &'a WatchState,
-    member: &'a M,
-    parts: WatchParts<T, P>,
-    wires: &mut W,
-)
-where
-    T: Ticks<M> + Drop + Send,
-    P: ServesPort<M, R> + Drop + Send,
-    R: Threads + Wait + Clock + Log + Sync,
-{
-    thread::scope(thread::scope_env(), rt, |scope| {
-        let begun = scope.spawn(move || run_beside(rt, state, member, parts));
-        if begun.is_err() {
-            return end_for_want(&state.run, &state.ending);
+impl<J: Which, S: ConfStore, R: Wait + Clock + ReadsTimes + Log> Work<WatchOf<'_, J, S>, R>
+    for Part<J, WatchTask<J>> {
+    fn work(self, rt: &R, watch: &WatchOf<'_, J, S>) {
+        let Part {
+            task,
+            mut seat,
+            back,
+        } = self;
+        let WatchOf { member, state } = *watch;
+        match task {
+            WatchTask::Ticks(mut ticks) => ticks.run(rt, state, member, &mut seat),
+            WatchTask::Port(port) => {
+                serve_port(rt, &state.run, member, &mut seat, port, &state.ending)
+            }
         }
-        wires.run(rt, state);
         state.ending.store(1, Ordering::SeqCst);
-    })
+        drop(back.send(rt, seat));
+    }
+}
+
+impl<J: Which, S: ConfStore, C: Connects<J> + Drop, R: Wait + Clock + Log> Work<
+    WatchOf<'_, J, S>,
+    R,
+> for Connections<J, C> {
+    /// Where the system no longer tells of them, that is noted.
+    fn work(mut self, rt: &R, watch: &WatchOf<'_, J, S>) {
+        if let Err(error) = self.run(rt, watch.state) {
+            note_lost(&watch.state.run, &error);
+        }
+        watch.state.ending.store(1, Ordering::SeqCst);
+    }
 }

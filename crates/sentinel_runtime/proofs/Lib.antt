@@ -1,4 +1,5 @@
 mod Cutting
 mod Handing
 mod Hearing
+mod HeardWell
 mod Saying

@@ -8,6 +8,7 @@ use Rattle.ballot_law.specs.declared.messages.Output.TheVariants.{Send, Tell}
 use Rattle.sentinel_cell.specs.declared.entry.Entry.{Entry}
 use Rattle.sentinel_cell.specs.declared.keeper.Keeper.{Keeper}
 use Rattle.sentinel_cell.specs.Histories.{World, IsLegal, IsLeft, replay}
+use Rattle.sentinel_runtime.specs.Hearing.{MayTakeAll}
 use Rattle.sentinel_runtime.specs.declared.run_state.RunFault.{RunFault}
 use Rattle.sentinel_runtime.specs.declared.run_state.RunFault.TheVariants.{LackedThread, LostPort, Halted}
 use Rattle.sentinel_runtime.specs.declared.ticking.TheConstants.{TICK_MS}
@@ -32,6 +33,7 @@ worst_of false true halted = Some LostPort
 worst_of false false true = Some Halted
 worst_of false false false = None
 
--- the Sentinel and its store are those that a legal history from this world leaves
-abbrev pub IsLeftByTurns : {S : Type 0} → (text : S → Option (List ℕ)) → (failures : S → ℕ) → World → Keeper S → Type 0
-IsLeftByTurns text failures start keeper = (history : List Entry) × IsLegal start history × IsLeft text failures (replay start history) keeper
+-- The Sentinel and its store are those that a legal history from this world leaves, each entry of which took what the Sentinel may take
+abbrev pub IsLeftByTurns : {S : Type 0} → (told : Event → Type 0) → (text : S → Option (List ℕ)) → (failures : S → ℕ) → World → Keeper S → Type 0
+IsLeftByTurns told text failures start keeper =
+    (history : List Entry) × IsLegal start history × IsLeft text failures (replay start history) keeper × ∥ MayTakeAll told history ∥₁

@@ -7,7 +7,7 @@ ghost use Rattle.boxed_nodes.specs.Sendable.{IsSendableOutput};
 ghost use Rattle.ballot_law.specs.declared.messages.Message.{Message};
 ghost use Rattle.ballot_law.specs.declared.messages.Note.{Note};
 ghost use Rattle.sentinel_runtime.specs.Running.{input_of, phase_of, IsLeftByTurns};
-ghost use Rattle.sentinel_runtime.specs.Hearing.{MayTake};
+ghost use Rattle.sentinel_runtime.specs.Hearing.{HeardWell, MayTake};
 ghost use Rattle.sentinel_runtime.specs.Saying.{IsNoted, IsReleased, IsSaid, MayNote};
 ghost use Rattle.sentinel_runtime.specs.declared.news.TheConstants.{EVENTS_MAX, WAITING_MAX};
 ghost use Rattle.courteous_sessions.specs.Clients.{informed, TakesSome, NotifiesClient};
@@ -16,6 +16,7 @@ ghost use Rattle.sentinel_cell.specs.Standing.{Adds, Faulted};
 ghost use Rattle.sentinel_rules.specs.Plans.{group_size, master_count, roster_of};
 ghost use Rattle.ballot_law.specs.Limits.{IsWithinEvent};
 
+use crate::fresh_sentinel::FreshSentinel;
 use crate::known_epoch::KnownEpoch;
 use crate::news::{News, NewsLists};
 use crate::notes::{Announcing, tell_all};
@@ -86,7 +87,8 @@ pub struct RunningSentinel<J: Which, S: ConfStore> {
     ghost notes: { (note : Note) (number : ℕ) → IsNoted cell.start note number → ∥ J.noted note number ∥₁ },
 }
 
-/// A thread's seat of that Sentinel, with the thread's own room for outputs.
+/// A thread's seat of that Sentinel, with the thread's own room for outputs. All that its calls took the Sentinel may
+/// take.
 #[derive(Drop)]
 pub struct ThreadSeat<J: Which> {
     seat: Seat,
@@ -95,11 +97,13 @@ pub struct ThreadSeat<J: Which> {
     of: PhantomData<J>,
     ghost is: { seat.cell ≡ J.cell },
     ghost held: { outbox.held ≡ [] },
+    ghost heard: { ∥ HeardWell J.told seat.view ∥₁ },
 }
 
 /// A seat with room for outputs that is made as it is needed.
 fn with_outbox<J: Which>(alloc: Global, seat: Seat) -> ThreadSeat<J>
-    requires { seat.cell ≡ J.cell }
+    requires own { seat.cell ≡ J.cell }
+    requires heard { ∥ HeardWell J.told seat.view ∥₁ }
     ensures { result.seat ≡ seat }
 {
     ThreadSeat {
@@ -113,7 +117,8 @@ fn with_outbox<J: Which>(alloc: Global, seat: Seat) -> ThreadSeat<J>
 impl<J: Which> ThreadSeat<J> {
     /// The seat.
     fn into_seat(self) -> Seat
-        ensures { result.cell ≡ J.cell }
+        ensures own { result.cell ≡ J.cell }
+        ensures heard { ∥ HeardWell J.told result.view ∥₁ }
     {
         let ThreadSeat {
             seat,
@@ -150,24 +155,26 @@ impl<J: Which> ThreadSeat<J> {
 
 impl<J: Which, S: ConfStore> RunningSentinel<J, S> {
     /// The Sentinel at this place of the roster, with its first seat. Its clients come to this port, which so many
-    /// threads serve. What its stored entries release may be said in its name, and told of it.
+    /// threads serve. What its stored entries release may be said in its name, and told of it. The error is a refused
+    /// allocation: the Sentinel, its store and the seat are gone then.
+    #[tactic(auto, using(crate::proofs::HeardWell::begins_well))]
     pub fn with_seat(
         alloc: Global,
-        cell: SharedSentinel<S>,
-        seat: Seat,
+        fresh: FreshSentinel<S>,
         place: u16,
         port: u16,
         port_threads: u16,
     ) -> Result<(RunningSentinel<J, S>, ThreadSeat<J>), AllocError>
     where
         S: Drop,
-        requires named { (cell.id ≡ J.cell) × (seat.cell ≡ J.cell) }
-        requires says { (message : Message) → IsReleased cell.start message → ∥ J.said message ∥₁ }
-        requires notes { (note : Note) (number : ℕ) → IsNoted cell.start note number → ∥ J.noted note number ∥₁ }
-        ensures seat { IfOk result (λ r. r.1.seat ≡ seat) }
-        ensures cell { IfOk result (λ r. (r.0.cell ≡ cell) × (r.0.place ≡ place)) }
+        requires named { fresh.cell.id ≡ J.cell }
+        requires says { (message : Message) → IsReleased fresh.cell.start message → ∥ J.said message ∥₁ }
+        requires notes { (note : Note) (number : ℕ) → IsNoted fresh.cell.start note number → ∥ J.noted note number ∥₁ }
+        ensures seat { IfOk result (λ r. r.1.seat ≡ fresh.seat) }
+        ensures cell { IfOk result (λ r. (r.0.cell ≡ fresh.cell) × (r.0.place ≡ place)) }
         ensures news { IfOk result (λ r. length r.0.news.lists.items ≡ port_threads) }
     {
+        let FreshSentinel { cell, seat } = fresh;
         let member = RunningSentinel {
             cell,
             place,
@@ -198,7 +205,8 @@ impl<J: Which, S: ConfStore> RunningSentinel<J, S> {
     }
 
     /// Cuts a seat into as many as it has a share for. The first one of a cell has the share of all that the cell was
-    /// made for.
+    /// made for. The error is a refused allocation: these seats are gone then, so that `close` gives nothing back.
+    #[tactic(auto, using(crate::proofs::HeardWell::cut_first, crate::proofs::HeardWell::cut_second))]
     pub fn seats(
         &self,
         alloc: Global,
@@ -222,11 +230,13 @@ impl<J: Which, S: ConfStore> RunningSentinel<J, S> {
     }
 
     /// Ends the sharing, with the seats of all threads, which have ended: the Sentinel and its store, as the history of
-    /// its turns leaves them. None where a seat is missing; the Sentinel and its store are gone then.
+    /// its turns leaves them, in each of which it took what it may take. None where a seat is missing; the Sentinel and
+    /// its store are gone then.
+    #[tactic(auto, using(crate::proofs::HeardWell::joined_heard, crate::proofs::HeardWell::left_well))]
     pub fn close(self, mut seats: Vec<ThreadSeat<J>>) -> Option<Keeper<S>>
     where
         S: Drop,
-        ensures { IfSome result (IsLeftByTurns S.held S.failure_count self.cell.start) }
+        ensures { IfSome result (IsLeftByTurns J.told S.held S.failure_count self.cell.start) }
     {
         let RunningSentinel {
             cell,
@@ -245,8 +255,9 @@ impl<J: Which, S: ConfStore> RunningSentinel<J, S> {
         cell.close(whole).ok()
     }
 
-    /// One input, and how many calls stand before it. The outbox shows what the Sentinel says, once it is stored; at a
-    /// fault it says nothing.
+    /// One input that the Sentinel may take, and how many calls stand before it. The outbox shows what the Sentinel
+    /// says, once it is stored; at a fault it says nothing.
+    #[tactic(auto, using(crate::proofs::HeardWell::turned_heard))]
     fn turn<R: Wait>(
         &self,
         rt: &R,
@@ -254,6 +265,7 @@ impl<J: Which, S: ConfStore> RunningSentinel<J, S> {
         input: &Input,
     ) -> Result<u64, ActFault>
         requires within { IsWithinEvent input.now.event }
+        requires told { MayTake J.told input.now.event }
         ensures sendable { OnOk result (AllByRecursion IsSendableOutput seat.new.outbox.shown) }
         ensures said { OnOk result (AllByRecursion (IsSaid J.said) seat.new.outbox.shown) }
         ensures noted { IfOk result (λ entry. AllByRecursion (MayNote J.noted entry) seat.new.outbox.shown) }
@@ -271,7 +283,7 @@ impl<J: Which, S: ConfStore> RunningSentinel<J, S> {
 
     /// One input at a reading of the clock in milliseconds, which comes from no message or is what the Sentinel may be
     /// told. What it says, once it is stored, goes to the outlet, and what it notes to the log and to the subscribers
-    /// of its port. At a fault it says nothing.
+    /// of its port. At a fault, which is one of `SharedSentinel::act`, it says nothing.
     pub fn carry_out<O: Outlet<J>, R: Wait + Log>(
         &self,
         rt: &R,
@@ -414,6 +426,7 @@ impl<J: Which, S: ConfStore> RunningSentinel<J, S> {
     /// Hands a session the next piece of its stream, at a reading of the clock in milliseconds, for so many answers
     /// that may be stored: all that `ClientSession::go_on` says of it holds of this Sentinel. Where `guard_epochs` was
     /// called, the session is told before that from which epoch requests for votes count.
+    #[tactic(auto, using(crate::proofs::HeardWell::received_heard))]
     pub fn receive<R: Wait>(
         &self,
         rt: &R,

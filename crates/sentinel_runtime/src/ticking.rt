@@ -180,8 +180,8 @@ impl Ticker {
     }
 }
 
-/// Has the Sentinel take what was heard for it, which it may be told: whether it goes on. What it says goes to the
-/// outlet.
+/// Has the Sentinel take what was heard for it, which it may be told: whether it goes on. It doesn't where it is halted
+/// or has no tickets left; an event for which there is no memory is lost. What it says goes to the outlet.
 pub fn hear<J: Which, S: ConfStore, O: Outlet<J>, R: Wait + Clock + Log>(
     rt: &R,
     state: &RunState,

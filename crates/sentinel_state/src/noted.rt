@@ -2,12 +2,10 @@
 
 use crate::notices::MasterNotice;
 use ballot_law::{NODES_MAX, SENTINELS_MAX};
+use failover_states::SPREAD_MS;
 
 /// For how long after its last start a Sentinel begins no failover, in timeouts.
 const TIMEOUTS: u64 = 2;
-
-/// By how much a start may count as later than it was, in milliseconds.
-const SPREAD_MS: u64 = 1_000;
 
 /// How long it is between two notices that no epoch is left, in milliseconds.
 const NO_EPOCH_MS: u64 = 60_000;

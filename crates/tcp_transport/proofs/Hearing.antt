@@ -3,7 +3,6 @@ use Rattle.std.proofs.Common.{inl, inr, ◌≡◌, ℕ, List, [], ◌∷◌, ◌
 use Rattle.std.specs.Prelude.{Result, Ok, Err}
 use Rattle.std.proofs.lemmas.List.{append-nil}
 use Rattle.std.specs.List.{AllByRecursion}
-use Rattle.ballot_law.specs.declared.addresses.Addr.{Addr}
 use Rattle.ballot_law.specs.declared.events.Event.{Event}
 use Rattle.ballot_law.specs.declared.events.Event.TheVariants as events
 use Rattle.ballot_law.specs.declared.messages.Message.{Message}
@@ -47,13 +46,13 @@ all_takeable told target before events none h =
 
 -- ---- what the bytes of a read tell
 
-pub heard : (before after : Addr → (put got : List ℕ) → Type 0) (s t : State) (piece : List ℕ) (events told : List Event) → Gets before after piece
+pub heard : (before after : Target → (put got : List ℕ) → Type 0) (s t : State) (piece : List ℕ) (events told : List Event) → Gets before after piece
     → (more : List Event) × (told ≡ events ++ more) × AllByRecursion (IsHeardOn s.target) more
     × IsHeard s.target.node s.target.listens s.talk.asked (s.talk.held ++ piece) more t.talk.asked t.talk.held
     → Hears before after s t events told
 heard before after s t piece events told read h = record { bytes = piece; read = read; more = h.0; added = h.1; hears = h.3 }
 
-pub broken : (before after : Addr → (put got : List ℕ) → Type 0) (s : State) (piece : List ℕ) (events told : List Event) (why : LinkFault) → Gets before after piece
+pub broken : (before after : Target → (put got : List ℕ) → Type 0) (s : State) (piece : List ℕ) (events told : List Event) (why : LinkFault) → Gets before after piece
     → (more : List Event) × (told ≡ events ++ more) × AllByRecursion (IsHeardOn s.target) more
     × IsBroken s.target.node s.target.listens s.talk.asked (s.talk.held ++ piece) why more
     → Breaks before after s events told why
@@ -75,15 +74,13 @@ are_told : (target : Target) (asked left : List Question) (stream held : List �
 are_told target asked left stream held events (Ok x) k = record { values = k.values; rest = k.rest; parts = k.parts; left = left; tells = k.tells }
 are_told target asked left stream held events (Err why) k = record { values = k.values; rest = k.rest; parts = k.parts; left = k.left; tells = k.tells }
 
-tell_each : (said : Message → Type 0) (told : Event → Type 0) (stands : Addr → (put got : List ℕ) → Type 0) (s : State) (piece : List ℕ) (before more : List Event)
+tell_each : (said : Message → Type 0) (told : Event → Type 0) (stands : Target → (put got : List ℕ) → Type 0) (s : State) (piece : List ℕ) (before more : List Event)
     → (h : IsWhole said stands s) → MayTell said told stands piece → AreTold s.target h.session.asked (h.got ++ piece) (before ++ more)
     → AllByRecursion (IsHeardOn s.target) more → AllByRecursion (IsToldOn told s.target) more
 tell_each said told stands s piece before [] h may k on = tt
 tell_each said told stands s piece before (event ∷ more) h may k on =
-    let one : IsTold said s.target.addr h.put (h.got ++ piece) event =
+    let one : IsTold said s.target h.put (h.got ++ piece) event =
     record {
-      target = s.target;
-      is_to = refl;
       asked = h.session.asked;
       unsent = s.talk.unsent;
       speaks = h.session.speaks;
@@ -92,9 +89,9 @@ tell_each said told stands s piece before (event ∷ more) h may k on =
       told = k;
     } in
     let rest = subst (AreTold s.target h.session.asked (h.got ++ piece)) (sym (append_assoc before (event ∷ []) more)) k in
-    ((on.0, may s.target.addr h.put h.got h.socket event one), tell_each said told stands s piece (before ++ event ∷ []) more h may rest on.1)
+    ((on.0, may s.target h.put h.got h.socket event one), tell_each said told stands s piece (before ++ event ∷ []) more h may rest on.1)
 
-told_by : (said : Message → Type 0) (told : Event → Type 0) (stands : Addr → (put got : List ℕ) → Type 0) (s : State) (piece held : List ℕ) (left : List Question)
+told_by : (said : Message → Type 0) (told : Event → Type 0) (stands : Target → (put got : List ℕ) → Type 0) (s : State) (piece held : List ℕ) (left : List Question)
     (events now : List Event) (result : Result (Unit {0}) LinkFault) → IsWhole said stands s → MayTell said told stands piece
     → (more : List Event) × (now ≡ events ++ more) × AllByRecursion (IsHeardOn s.target) more
     × Receives s.target.node s.target.listens s.talk.asked (s.talk.held ++ piece) result more left held
@@ -103,14 +100,14 @@ told_by said told stands s piece held left events now result h may k =
     let whole = with_piece s.target h.session.asked left h.got piece held s.talk k.0 result h.session.heard k.3 in
     (k.0, k.1, tell_each said told stands s piece whole.0 k.0 h may (are_told s.target h.session.asked left (h.got ++ piece) held (whole.0 ++ k.0) result whole.1) k.2)
 
-pub told_heard : (said : Message → Type 0) (told : Event → Type 0) (stands : Addr → (put got : List ℕ) → Type 0) (s : State) (piece held : List ℕ) (left : List Question)
+pub told_heard : (said : Message → Type 0) (told : Event → Type 0) (stands : Target → (put got : List ℕ) → Type 0) (s : State) (piece held : List ℕ) (left : List Question)
     (events now : List Event) → IsWhole said stands s → MayTell said told stands piece
     → (more : List Event) × (now ≡ events ++ more) × AllByRecursion (IsHeardOn s.target) more
     × IsHeard s.target.node s.target.listens s.talk.asked (s.talk.held ++ piece) more left held
     → (more : List Event) × (now ≡ events ++ more) × AllByRecursion (IsToldOn told s.target) more
 told_heard said told stands s piece held left events now h may k = told_by said told stands s piece held left events now (Ok tt) h may k
 
-pub told_broken : (said : Message → Type 0) (told : Event → Type 0) (stands : Addr → (put got : List ℕ) → Type 0) (s : State) (piece : List ℕ) (why : LinkFault)
+pub told_broken : (said : Message → Type 0) (told : Event → Type 0) (stands : Target → (put got : List ℕ) → Type 0) (s : State) (piece : List ℕ) (why : LinkFault)
     (events now : List Event) → IsWhole said stands s → MayTell said told stands piece
     → (more : List Event) × (now ≡ events ++ more) × AllByRecursion (IsHeardOn s.target) more
     × IsBroken s.target.node s.target.listens s.talk.asked (s.talk.held ++ piece) why more
@@ -119,7 +116,7 @@ told_broken said told stands s piece why events now h may k = told_by said told 
 
 -- ---- what a read leaves
 
-pub whole_heard : (said : Message → Type 0) (a b : Addr → (put got : List ℕ) → Type 0) (s t : State) (piece : List ℕ) (events now : List Event) → IsWhole said a s
+pub whole_heard : (said : Message → Type 0) (a b : Target → (put got : List ℕ) → Type 0) (s t : State) (piece : List ℕ) (events now : List Event) → IsWhole said a s
     → Gets a b piece
     → (more : List Event) × (now ≡ events ++ more) × AllByRecursion (IsHeardOn s.target) more
     × IsHeard s.target.node s.target.listens s.talk.asked (s.talk.held ++ piece) more t.talk.asked t.talk.held
@@ -132,13 +129,13 @@ whole_heard said a b s t piece events now h read k unsent to =
       speaks = subst (λ (x : List ℕ). Speaks said s.target (h.put ++ x) h.session.asked) (sym unsent) h.session.speaks;
       heard = inr (all.0 ++ k.0, all.1);
     } in
-    whole_at said b s.target t.talk h.put (h.got ++ piece) t (read s.target.addr h.put h.got h.socket) session to refl
+    whole_at said b s.target t.talk h.put (h.got ++ piece) t (read s.target h.put h.got h.socket) session to refl
 
-pub whole_quiet : (said : Message → Type 0) (a b : Addr → (put got : List ℕ) → Type 0) (s : State) → IsWhole said a s → IsQuiet a b → IsWhole said b s
-whole_quiet said a b s h quiet = record { put = h.put; got = h.got; socket = quiet s.target.addr h.put h.got h.socket; session = h.session }
+pub whole_quiet : (said : Message → Type 0) (a b : Target → (put got : List ℕ) → Type 0) (s : State) → IsWhole said a s → IsQuiet a b → IsWhole said b s
+whole_quiet said a b s h quiet = record { put = h.put; got = h.got; socket = quiet s.target h.put h.got h.socket; session = h.session }
 
-pub quiet_end : (a b : Addr → (put got : List ℕ) → Type 0) (room : List ℕ) → Gets a b (take 0 room) → IsQuiet a b
-quiet_end a b room h = λ addr put got is. subst (b addr put) (append-nil got) (h addr put got is)
+pub quiet_end : (a b : Target → (put got : List ℕ) → Type 0) (room : List ℕ) → Gets a b (take 0 room) → IsQuiet a b
+quiet_end a b room h = λ target put got is. subst (b target put) (append-nil got) (h target put got is)
 
 -- nothing was added
 pub no_more : (told : Event → Type 0) (target : Target) (before now : List Event) → now ≡ before

@@ -4,11 +4,11 @@ use Rattle.std.specs.Prelude.{Option, None, Some, Result, Ok, Err, OnErr, IfOk, 
 use Rattle.std.specs.List.{AllByRecursion}
 use Rattle.std.proofs.lemmas.Bool.{false≢true}
 use Rattle.std.proofs.lemmas.Option.{none-some}
-use Rattle.ballot_law.specs.declared.addresses.Addr.{Addr}
 use Rattle.ballot_law.specs.declared.events.Event.{Event}
 use Rattle.ballot_law.specs.declared.messages.Body.{Body}
 use Rattle.ballot_law.specs.declared.messages.Message.{Message}
 use Rattle.ballot_law.specs.declared.messages.NodeName.{NodeName}
+use Rattle.ballot_law.specs.declared.messages.NodeName.TheVariants.{StoreAt}
 use Rattle.resp2.specs.Framing.Frame.{Frame}
 use Rattle.links.specs.declared.schedule.Schedule.{Schedule}
 use Rattle.links.specs.declared.schedule.Stage.{Stage}
@@ -17,7 +17,7 @@ use Rattle.links.specs.declared.sessions.fault.LinkFault.{LinkFault}
 use Rattle.links.specs.declared.sessions.questions.Question.{Question}
 use Rattle.links.specs.declared.speaking.Login.{Login}
 use Rattle.links.specs.declared.target.Target.{Target}
-use Rattle.links.specs.NodeLinks.{State, fresh, opening_at, asked_at, row_asked_at, ack_asked_at, IsOwn, put_all, AsksByItself}
+use Rattle.links.specs.NodeLinks.{State, fresh, opening_at, asked_at, row_asked_at, ack_asked_at, IsDataNode, IsOwn, put_all, AsksByItself}
 use Rattle.links.specs.Sessions.Links.{Link, next_asked, Tells, IsHeard}
 use Rattle.links.specs.Speaking.{bytes_for, questions_for}
 use Rattle.tcp_transport.specs.Said.{Word, word_for, row_word, ack_word, first_word, MaySay, Speaks}
@@ -81,7 +81,7 @@ session_word said target put got talk word silent h may = record {
   heard = heard_more target h.asked word.asked got (talk.unsent ++ word.bytes) talk silent h.heard;
 }
 
-session_all : (said : Message → Type 0) (target : Target) (put got : List ℕ) (bodies : List Body) (talk : Link) → target.listens ≡ false → AllByRecursion IsOwn bodies
+session_all : (said : Message → Type 0) (target : Target) (put got : List ℕ) (bodies : List Body) (talk : Link) → target.listens ≡ false → AllByRecursion (IsOwn target.node) bodies
     → IsSession said target put got talk → IsSession said target put got (put_all bodies talk)
 session_all said target put got [] talk silent own h = h
 session_all said target put got (body ∷ bodies) talk silent own h =
@@ -90,17 +90,17 @@ session_all said target put got (body ∷ bodies) talk silent own h =
 
 -- ---- a connection and its socket
 
-pub whole_at : (said : Message → Type 0) (stands : Addr → (put got : List ℕ) → Type 0) (target : Target) (talk : Link) (put got : List ℕ) (t : State)
-    → stands target.addr put got → IsSession said target put got talk → t.target ≡ target → t.talk ≡ talk → IsWhole said stands t
+pub whole_at : (said : Message → Type 0) (stands : Target → (put got : List ℕ) → Type 0) (target : Target) (talk : Link) (put got : List ℕ) (t : State)
+    → stands target put got → IsSession said target put got talk → t.target ≡ target → t.talk ≡ talk → IsWhole said stands t
 whole_at said stands target talk put got t socket session to is = record {
   put = put;
   got = got;
-  socket = subst (λ (x : Target). stands x.addr put got) (sym to) socket;
+  socket = subst (λ (x : Target). stands x put got) (sym to) socket;
   session = subst (λ (x : Target). IsSession said x put got t.talk) (sym to) (subst (IsSession said target put got) (sym is) session);
 }
 
 -- other times of the connection
-pub whole_timed : (said : Message → Type 0) (stands : Addr → (put got : List ℕ) → Type 0) (schedule : Schedule) (s t : State) → IsWhole said stands s
+pub whole_timed : (said : Message → Type 0) (stands : Target → (put got : List ℕ) → Type 0) (schedule : Schedule) (s t : State) → IsWhole said stands s
     → t ≡ record s { schedule = schedule } → IsWhole said stands t
 whole_timed said stands schedule s t h is =
     whole_at said stands s.target s.talk h.put h.got t h.socket h.session (ap (λ (x : State). x.target) is) (ap (λ (x : State). x.talk) is)
@@ -109,22 +109,22 @@ whole_timed said stands schedule s t h is =
 pub whole_fresh : (said : Message → Type 0) (target : Target) (t : State) → t.target ≡ target → t.talk ≡ fresh target → IsWhole said NoSocket t
 whole_fresh said target t to is = whole_at said NoSocket target (fresh target) [] [] t (refl, refl) (session_fresh said target) to is
 
-pub whole_left : {S : Type 0} (said : Message → Type 0) (stands : S → Addr → (put got : List ℕ) → Type 0) (socket : Option S) (target : Target) (t : State)
+pub whole_left : {S : Type 0} (said : Message → Type 0) (stands : S → Target → (put got : List ℕ) → Type 0) (socket : Option S) (target : Target) (t : State)
     → socket ≡ None → t.target ≡ target → t.talk ≡ fresh target → IsWhole said (stands_of stands socket) t
 whole_left {S} said stands socket target t none to is =
     subst (λ (x : Option S). IsWhole said (stands_of stands x) t) (sym none) (whole_fresh said target t to is)
 
 -- with a socket that is new
-pub whole_opened : (said : Message → Type 0) (stands : Addr → (put got : List ℕ) → Type 0) (now : ℕ) (login : Login) (s t : State)
-    → t ≡ opening_at now login s → stands t.target.addr [] [] → IsWhole said stands t
+pub whole_opened : (said : Message → Type 0) (stands : Target → (put got : List ℕ) → Type 0) (now : ℕ) (login : Login) (s t : State)
+    → t ≡ opening_at now login s → stands t.target [] [] → IsWhole said stands t
 whole_opened said stands now login s t is new =
     let to : t.target ≡ s.target = ap (λ (x : State). x.target) is in
-    whole_at said stands s.target (opening_at now login s).talk [] [] t (subst (λ (x : Target). stands x.addr [] []) to new) (session_first said s.target login) to
+    whole_at said stands s.target (opening_at now login s).talk [] [] t (subst (λ (x : Target). stands x [] []) to new) (session_first said s.target login) to
     (ap (λ (x : State). x.talk) is)
 
 -- ---- one word more
 
-whole_word : (said : Message → Type 0) (stands : Addr → (put got : List ℕ) → Type 0) (word : Word) (s t : State) → IsWhole said stands s → s.target.listens ≡ false
+whole_word : (said : Message → Type 0) (stands : Target → (put got : List ℕ) → Type 0) (word : Word) (s t : State) → IsWhole said stands s → s.target.listens ≡ false
     → MaySay said s.target word → t.target ≡ s.target → t.talk ≡ with_word word s.talk → IsWhole said stands t
 whole_word said stands word s t h silent may to is =
     whole_at said stands s.target (with_word word s.talk) h.put h.got t h.socket (session_word said s.target h.put h.got s.talk word silent h.session may) to is
@@ -138,7 +138,7 @@ shut_at : (stage : Stage) → is_open stage ≡ false → stage ≢ Open
 shut_at stage shut same = false≢true (sym shut ∙ ap is_open same)
 
 -- a word joins what is unsent only on an open connection
-whole_where_open : (said : Message → Type 0) (stands : Addr → (put got : List ℕ) → Type 0) (s t u : State) → IsWhole said stands s → IsWhole said stands u
+whole_where_open : (said : Message → Type 0) (stands : Target → (put got : List ℕ) → Type 0) (s t u : State) → IsWhole said stands s → IsWhole said stands u
     → (s.schedule.stage ≢ Open → t ≡ s) → (s.schedule.stage ≡ Open → t ≡ u) → IsWhole said stands t
 whole_where_open said stands s t u h k shut ok = by_stage s.schedule.stage refl where
   by_stage : (stage : Stage) → s.schedule.stage ≡ stage → IsWhole said stands t
@@ -147,19 +147,20 @@ whole_where_open said stands s t u h k shut ok = by_stage s.schedule.stage refl 
   by_stage Closed is = subst (IsWhole said stands) (sym (shut (λ at. shut_at Closed refl (sym is ∙ at)))) h
 
 -- a message to its node that may be said
-pub whole_message : (said : Message → Type 0) (stands : Addr → (put got : List ℕ) → Type 0) (now : ℕ) (message : Message) (s t : State) → IsWhole said stands s
+pub whole_message : (said : Message → Type 0) (stands : Target → (put got : List ℕ) → Type 0) (now : ℕ) (message : Message) (s t : State) → IsWhole said stands s
     → ∥ said message ∥₁ → s.target.node ≡ message.target → s.target.listens ≡ false → (s.schedule.stage ≢ Open → t ≡ s)
     → (s.schedule.stage ≡ Open → t ≡ asked_at now message.body s) → IsWhole said stands t
 whole_message said stands now message s t h may to silent =
     whole_where_open said stands s t (asked_at now message.body s) h
     (whole_word said stands (word_for message.body) s (asked_at now message.body s) h silent (inr (inl (record { message = message; may = may; is_to = sym to; is = refl }))) refl refl)
 
-pub whole_ack : (said : Message → Type 0) (stands : Addr → (put got : List ℕ) → Type 0) (now : ℕ) (s t : State) → IsWhole said stands s → s.target.listens ≡ false
-    → (s.schedule.stage ≢ Open → t ≡ s) → (s.schedule.stage ≡ Open → t ≡ ack_asked_at now s) → IsWhole said stands t
-whole_ack said stands now s t h silent =
-    whole_where_open said stands s t (ack_asked_at now s) h (whole_word said stands ack_word s (ack_asked_at now s) h silent (inl (inr refl)) refl refl)
+pub whole_ack : (said : Message → Type 0) (stands : Target → (put got : List ℕ) → Type 0) (now number : ℕ) (s t : State) → IsWhole said stands s → s.target.listens ≡ false
+    → s.target.node ≡ StoreAt number → (s.schedule.stage ≢ Open → t ≡ s) → (s.schedule.stage ≡ Open → t ≡ ack_asked_at now s) → IsWhole said stands t
+whole_ack said stands now number s t h silent is =
+    let node : IsDataNode s.target.node = subst IsDataNode (sym is) tt in
+    whole_where_open said stands s t (ack_asked_at now s) h (whole_word said stands ack_word s (ack_asked_at now s) h silent (inl (inr (node, refl))) refl refl)
 
-pub whole_row : (said : Message → Type 0) (stands : Addr → (put got : List ℕ) → Type 0) (now : ℕ) (name : List ℕ) (is_asked : Bool) (s t : State)
+pub whole_row : (said : Message → Type 0) (stands : Target → (put got : List ℕ) → Type 0) (now : ℕ) (name : List ℕ) (is_asked : Bool) (s t : State)
     → IsWhole said stands s → s.target.listens ≡ false → (IsTrue is_asked → (length s.talk.asked ≤ 0) × (t ≡ row_asked_at now name s)) → (IsFalse is_asked → t ≡ s)
     → IsWhole said stands t
 whole_row said stands now name true s t h silent asked unasked =
@@ -168,7 +169,7 @@ whole_row said stands now name true s t h silent asked unasked =
 whole_row said stands now name false s t h silent asked unasked = subst (IsWhole said stands) (sym (unasked refl)) h
 
 -- what it asks by itself
-pub whole_own : (said : Message → Type 0) (stands : Addr → (put got : List ℕ) → Type 0) (s t : State) → IsWhole said stands s → s.target.listens ≡ false
-    → AsksByItself s.talk t.talk → t.target ≡ s.target → IsWhole said stands t
+pub whole_own : (said : Message → Type 0) (stands : Target → (put got : List ℕ) → Type 0) (s t : State) → IsWhole said stands s → s.target.listens ≡ false
+    → AsksByItself s.target.node s.talk t.talk → t.target ≡ s.target → IsWhole said stands t
 whole_own said stands s t h silent own to =
     whole_at said stands s.target (put_all own.0 s.talk) h.put h.got t h.socket (session_all said s.target h.put h.got own.0 s.talk silent own.1 h.session) to own.2

@@ -7,7 +7,7 @@ use Rattle.links.specs.declared.sessions.questions.Question.{Question}
 use Rattle.links.specs.declared.sessions.questions.Question.TheVariants.{Order}
 use Rattle.links.specs.declared.speaking.Login.{Login}
 use Rattle.links.specs.declared.target.Target.{Target}
-use Rattle.links.specs.NodeLinks.{IsOwn}
+use Rattle.links.specs.NodeLinks.{IsDataNode, IsOwn}
 use Rattle.links.specs.Speaking.{bytes_for, questions_for, row_bytes, ack_bytes, login_bytes, login_questions, id_bytes, id_questions, listen_bytes, listen_questions}
 
 -- one word, and what its answers will be about
@@ -29,13 +29,13 @@ ack_word = record { bytes = ack_bytes; asked = Order ∷ [] }
 
 -- ---- which words may be said on a connection to this target
 
--- a question that it asks by itself: a PING, or for INFO
-abbrev pub IsOwnQuestion : Word → Type 0
-IsOwnQuestion word = (body : Body) × IsOwn body × (word ≡ word_for body)
+-- a question that it asks by itself: a PING, or a data node for INFO
+abbrev pub IsOwnQuestion : Target → Word → Type 0
+IsOwnQuestion target word = (body : Body) × IsOwn target.node body × (word ≡ word_for body)
 
--- what it puts out by itself: such a question, or that its node is to acknowledge its master's stream
-abbrev pub IsOwnWord : Word → Type 0
-IsOwnWord word = IsOwnQuestion word ⊎ (word ≡ ack_word)
+-- what it puts out by itself: such a question, or that a data node is to acknowledge its master's stream
+abbrev pub IsOwnWord : Target → Word → Type 0
+IsOwnWord target word = IsOwnQuestion target word ⊎ (IsDataNode target.node × (word ≡ ack_word))
 
 -- a message to the node at its other end that the Sentinel may say
 pub record IsMessageWord (said : Message → Type 0) (target : Target) (word : Word) : Type 0 where
@@ -49,7 +49,7 @@ abbrev pub IsRowWord : Word → Type 0
 IsRowWord word = (name : List ℕ) × (word ≡ row_word name)
 
 abbrev pub MaySay : (said : Message → Type 0) → Target → Word → Type 0
-MaySay said target word = IsOwnWord word ⊎ (IsMessageWord said target word ⊎ IsRowWord word)
+MaySay said target word = IsOwnWord target word ⊎ (IsMessageWord said target word ⊎ IsRowWord word)
 
 -- ---- all that was put out on a connection
 

@@ -1,6 +1,5 @@
 -- A connection and its socket.
 use Rattle.std.specs.Prelude.{◌≡◌, ◌⊎◌, ℕ, List, [], ◌++◌, Result, Ok, Err}
-use Rattle.ballot_law.specs.declared.addresses.Addr.{Addr}
 use Rattle.ballot_law.specs.declared.events.Event.{Event}
 use Rattle.ballot_law.specs.declared.messages.Message.{Message}
 use Rattle.links.specs.declared.sessions.questions.Question.{Question}
@@ -23,10 +22,10 @@ pub record IsSession (said : Message → Type 0) (target : Target) (put got : Li
   pub heard : IsHeardSoFar target asked got talk
 
 -- The socket of a connection is to its target's address, and the session is that of this socket from its first byte on
-pub record IsWhole (said : Message → Type 0) (stands : Addr → (put got : List ℕ) → Type 0) (s : State) : Type 0 where
+pub record IsWhole (said : Message → Type 0) (stands : Target → (put got : List ℕ) → Type 0) (s : State) : Type 0 where
   pub put : List ℕ
   pub got : List ℕ
-  pub socket : stands s.target.addr put got
+  pub socket : stands s.target put got
   pub session : IsSession said s.target put got s.talk
 
 -- what a read leaves: a fault of what came closes the connection

@@ -74,7 +74,7 @@ impl Logins {
         }
     }
 
-    /// Those that the lines of a file say, which watches the masters of this roster.
+    /// Those that the lines of a file say, which watches the masters of this roster. The error is a refused allocation.
     pub fn of(alloc: Global, roster: &Roster, watch: &WatchConf) -> Result<Logins, AllocError>
         ensures masters { IfOk result (λ logins. logins.of_masters.items ≡ map (login_in watch.now) roster.now.masters) }
         ensures sentinels { IfOk result (λ logins. logins.of_sentinels ≡ record { user = sent_user watch.now; pass = sent_pass watch.now }) }
@@ -104,7 +104,8 @@ impl Logins {
         self.add(alloc, watch.node_user(name), watch.node_pass(name))
     }
 
-    /// Adds the login of the next master: an empty password is none, an empty user the default one.
+    /// Adds the login of the next master, in the roster's order: an empty password is none, an empty user the default
+    /// one. The error is a refused allocation, which adds nothing.
     pub fn add(&mut self, alloc: Global, user: &[u8], pass: &[u8]) -> Result<(), AllocError>
         ensures masters { OnOk result (self.new.of_masters.items
             ≡ self.old.of_masters.items ++ record { user = user.now; pass = pass.now } ∷ []) }
@@ -116,6 +117,7 @@ impl Logins {
     }
 
     /// Has the ports of the other Sentinels get this login: an empty password is none, an empty user the default one.
+    /// The error is a refused allocation, which changes nothing.
     pub fn set_sentinels(
         &mut self,
         alloc: Global,

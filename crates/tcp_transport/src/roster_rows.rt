@@ -7,7 +7,7 @@ use crate::hello_notes::{Id, Seldom, Told, named};
 use ballot_law::{Member, Name, NodeName, Roster, SENTINELS_MAX};
 use links::{DIFFERENT_MS, ROW_EACH_MS, Target};
 use log::{Log, warn};
-use resp2::{Frames, Value};
+use resp2::{Frames, Value, word_of};
 use std::alloc::Global;
 use std::fmt;
 use tokens::number_of;
@@ -41,14 +41,6 @@ pub(crate) enum RowHeard {
     Numbers(RowNumbers),
     /// The Sentinel watches no such master.
     NoMaster,
-}
-
-/// The bytes of a bulk string; none of any other value.
-fn word_of(value: &Value) -> &[u8] {
-    match value {
-        Value::Bulk(text) => text.as_slice(),
-        _ => b"",
-    }
 }
 
 /// The number in the field with this name, of a row of names and values.

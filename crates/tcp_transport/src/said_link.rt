@@ -11,7 +11,7 @@ ghost use Rattle.tcp_transport.specs.Told.{IsToldOn};
 use crate::exchange::Outgoing;
 use crate::sockets::{Connects, connected, is_connected};
 use crate::traffic::{Unheard, hear, send};
-use ballot_law::Event;
+use ballot_law::{Event, NodeName};
 use links::{LinkFault, Login, NodeLink, Schedule, Target};
 use mio::{Registry, Token};
 use sentinel_runtime::Which;
@@ -21,8 +21,9 @@ use std::marker::{Model, PhantomData};
 
 /// A connection to a node, with its socket where it is open or being opened. That is to the node's address. What was
 /// put out on it since it was opened, and what is unsent, is what comes before all messages, messages that the Sentinel
-/// may say to that node, and what it asks by itself; and what is awaited and held is what is left of all that came on
-/// it. Contracts see the connection without its socket.
+/// may say to that node, questions for a row, and what it asks by itself, which is a PING alone where that node is a
+/// Sentinel; and what is awaited and held is what is left of all that came on it. Contracts see the connection without
+/// its socket.
 #[derive(Drop)]
 pub(crate) struct SaidLink<J: Which, C: Connects<J>> {
     link: NodeLink,
@@ -112,7 +113,7 @@ impl<J: Which, C: Connects<J>> SaidLink<J, C> {
         self.socket = None;
         match self.link.open(login, now) {
             Ok(()) => {
-                match connected::<J, C>(net, registry, token, self.link.target().addr) {
+                match connected::<J, C>(net, registry, token, self.link.target()) {
                     Some(socket) => self.socket = Some(socket),
                     None => self.link.close(now),
                 }
@@ -215,13 +216,17 @@ impl<J: Which, C: Connects<J>> SaidLink<J, C> {
         }
     }
 
-    /// Asks a replica to acknowledge at once what it has of its master's stream, where it is open and takes messages. A
-    /// fault closes it.
+    /// Asks a replica to acknowledge at once what it has of its master's stream, where it is open, takes messages, and
+    /// is to a data node. A fault closes it.
     #[tactic(auto, using(crate::proofs::Sessions::whole_ack, crate::proofs::Sessions::whole_fresh))]
     pub(crate) fn ask_ack(&mut self, now: u64) -> Result<(), LinkFault>
         ensures target { self.new.target ≡ self.old.target }
     {
-        if self.link.target().listens {
+        let target = self.link.target();
+        let NodeName::StoreAt(_) = target.node else {
+            return Ok(());
+        };
+        if target.listens {
             return Ok(());
         }
         match self.link.ask_ack(now) {

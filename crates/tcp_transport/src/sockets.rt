@@ -4,6 +4,7 @@ ghost use Rattle.std.specs.Prelude.{◌≡◌, ◌≤◌, [], IfOk, IfSome, OnEr
 ghost use Rattle.ballot_law.specs.declared.events.Event.{Event};
 
 use ballot_law::Addr;
+use links::Target;
 use mio::net::TcpStream;
 use mio::{Interest, Registry, Token};
 use sentinel_runtime::Which;
@@ -11,17 +12,17 @@ use std::io::{self, Read, Write};
 use std::marker::PhantomData;
 use std::net::{Ipv4Addr, Net, SocketAddr};
 
-/// A socket of a connection. `stands` is what is known of it: to which address it is, which bytes were put out on it
-/// since it was opened, and which came. Of one of the system nothing is known; what is generic in it can't tell it from
-/// one of which all is.
+/// A socket of a connection. `stands` is what is known of it: to which node's address it is, which bytes were put out
+/// on it since it was opened, and which came. Of one of the system nothing is known; what is generic in it can't tell
+/// it from one of which all is.
 ///
 /// Nothing is told to the Sentinel but by a read: what the bytes tell that came on a socket, for what was asked on it.
 pub trait Socket<J: Which> {
     ghost use Rattle.std.specs.Prelude.{◌≡◌, ◌≤◌, IfOk, OnErr, List, ℕ, length, take};
-    ghost use Rattle.ballot_law.specs.declared.addresses.Addr.{Addr};
+    ghost use Rattle.links.specs.declared.target.Target.{Target};
     ghost use Rattle.tcp_transport.specs.Sockets.{IsQuiet, Puts, Gets, MayTell};
 
-    ghost stands: { Self → Addr → (put got : List ℕ) → Type 0 };
+    ghost stands: { Self → Target → (put got : List ℕ) → Type 0 };
 
     /// Has the system tell of it under this token.
     fn register(&mut self, registry: &Registry, token: Token) -> io::Result<()>
@@ -53,9 +54,9 @@ pub trait Connects<J: Which> {
 
     type Stream: Socket<J> + Drop;
 
-    /// Begins to connect to this address.
-    fn connect(&self, addr: Addr) -> io::Result<Self::Stream>
-        ensures { IfOk result (λ socket. Self.Stream.stands socket addr [] []) };
+    /// Begins to connect to this node's address.
+    fn connect(&self, target: Target) -> io::Result<Self::Stream>
+        ensures { IfOk result (λ socket. Self.Stream.stands socket target [] []) };
 }
 
 /// The sockets of the system. Nothing is known of them, so the Sentinel may be told whatever comes.
@@ -94,16 +95,16 @@ fn socket_of(addr: Addr) -> SocketAddr {
 impl<J: Which, N: Net> Connects<J> for NetSockets<'_, J, N> {
     type Stream = NetSocket<J>;
 
-    fn connect(&self, addr: Addr) -> io::Result<NetSocket<J>> {
+    fn connect(&self, target: Target) -> io::Result<NetSocket<J>> {
         Ok(NetSocket {
-            stream: TcpStream::connect(self.net, socket_of(addr))?,
+            stream: TcpStream::connect(self.net, socket_of(target.addr))?,
             of: PhantomData,
         })
     }
 }
 
 impl<J: Which> Socket<J> for NetSocket<J> {
-    ghost stands = { λ socket addr put got. Unit {0} };
+    ghost stands = { λ socket target put got. Unit {0} };
 
     fn register(&mut self, registry: &Registry, token: Token) -> io::Result<()> {
         registry.register(
@@ -130,16 +131,16 @@ impl<J: Which> Socket<J> for NetSocket<J> {
     }
 }
 
-/// Begins to connect to this address, and has the system tell of it under this token; none where it can't.
+/// Begins to connect to this node's address, and has the system tell of it under this token; none where it can't.
 pub(crate) fn connected<J: Which, C: Connects<J>>(
     net: &C,
     registry: &Registry,
     token: Token,
-    addr: Addr,
+    target: Target,
 ) -> Option<C::Stream>
-    ensures { IfSome result (λ socket. C.Stream.stands socket addr [] []) }
+    ensures { IfSome result (λ socket. C.Stream.stands socket target [] []) }
 {
-    let mut socket = net.connect(addr).ok()?;
+    let mut socket = net.connect(target).ok()?;
     socket.register(registry, token).ok()?;
     Some(socket)
 }

@@ -134,7 +134,7 @@ fn hearer<'a, J: Which, S: ConfStore>(member: &'a RunningSentinel<J, S>, now: u6
 }
 
 impl<J: Which> TickLoop<J> {
-    /// Nothing was heard yet at this reading of the clock, and the ticks are due at once.
+    /// Nothing was heard yet at this reading of the clock in milliseconds, and the ticks are due at once.
     pub fn new<S: ConfStore>(
         alloc: Global,
         member: &RunningSentinel<J, S>,

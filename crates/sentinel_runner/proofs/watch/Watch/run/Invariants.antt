@@ -5,8 +5,8 @@ use Rattle.sentinel_runner.proofs.watch.Watch.run.Given as goal
 abbrev pub ghosts-run_named : goal.ghosts-run_named
 ghosts-run_named g a =
     record {
-      cell = a.watching.opened.cell.id;
-      said = IsReleased a.watching.opened.cell.start;
-      noted = IsNoted a.watching.opened.cell.start;
+      cell = a.watching.opened.fresh.cell.id;
+      said = IsReleased a.watching.opened.fresh.cell.start;
+      noted = IsNoted a.watching.opened.fresh.cell.start;
       told = λ event. Unit {0};
     }

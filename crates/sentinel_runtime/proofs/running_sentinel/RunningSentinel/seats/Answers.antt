@@ -23,3 +23,6 @@ loop-seat-preserved g c =
           rw (w.left-is, w.seats-is)
           (shares_made (λ t. t.seat.view.share) _ _ _ _ _ _ _ c.in-Some.ensures.items w.in_ok-push-in-Err.ensures.items w.in-Err.ensures.err.2 c.loop-seat.invariant)
     ]
+
+pub with_outbox-requires-in-Err-clause-heard : goal.with_outbox-requires-in-Err-clause-heard
+with_outbox-requires-in-Err-clause-heard g c = rw c.in-Err.ensures.err.0 c.in-Some.seat.heard

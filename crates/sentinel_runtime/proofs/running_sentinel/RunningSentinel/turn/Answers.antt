@@ -1,3 +1,4 @@
+use Rattle.sentinel_runtime.proofs.HeardWell.{turned_heard}
 use Rattle.sentinel_runtime.proofs.Saying.{added_shown, faulted_shown, shown_noted, shown_said, shown_sendable}
 use Rattle.sentinel_runtime.proofs.running_sentinel.RunningSentinel.turn.Goals as goal
 
@@ -20,3 +21,7 @@ returns-in-Ok-clause-added g c = (added_shown _ c.args.seat.now.seat.view c.act_
 
 pub returns-in-Err-clause-fault : goal.returns-in-Err-clause-fault
 returns-in-Err-clause-fault g c = faulted_shown _ c.args.seat.now.seat.view c.act_observed.new.seat.view _ _ _ _ c.clear.ensures.shown c.in-Err.ensures.acted
+
+pub invariant_of-seat-clause-heard : goal.invariant_of-seat-clause-heard
+invariant_of-seat-clause-heard g c =
+    turned_heard g.J.Which.told _ c.args.seat.now.seat.view c.act_observed.new.seat.view _ _ _ c.requires.told c.act_observed.ensures.acted c.args.seat.now.heard

@@ -7,7 +7,7 @@ use Rattle.tcp_transport.proofs.said_link.SaidLink.open.Goals as goal
 pub invariant_of-self-in-Some-2 : goal.invariant_of-self-in-Some-2
 invariant_of-self-in-Some-2 g c =
     whole_opened g.J.Which.said (g.C.Stream.Socket.stands c.in-Some.socket) c.args.now c.args.login c.self.inside.link c.open.new.self c.in-Ok.ensures.ok
-    (subst (λ (target : Target). g.C.Stream.Socket.stands c.in-Some.socket target.addr [] []) c.target.ensures c.in-Some.ensures)
+    (subst (λ (target : Target). g.C.Stream.Socket.stands c.in-Some.socket target [] []) c.target.ensures c.in-Some.ensures)
 
 pub invariant_of-self-in-None : goal.invariant_of-self-in-None
 invariant_of-self-in-None g c =
