@@ -7,10 +7,10 @@ use crate::rosters::watching_mymaster;
 use crate::told::{Told, Unplayed};
 use ballot_law::{Addr, RunId, Text};
 use client_commands::{
-    ClientEntry, ClientInfo, CommandReader, Courtesy, Figures, PortFacts, Protocol, common_in,
-    courtesy_of, info,
+    ClientEntry, ClientInfo, CommandReader, Courtesy, Figures, PortFacts, Protocol, courtesy_of,
+    info,
 };
-use resp2::{FrameFault, OutText, Value, write_value};
+use resp2::{FrameFault, OutText, Value, common_in, write_value};
 use std::alloc::Global;
 
 /// A client of the port, with this number, from this port of 127.0.0.1, at this place.
