@@ -61,11 +61,11 @@ pub trait Node: Drop {
 
     /// Takes an input. Its outputs stand in the outbox as held: those of a Sentinel rest on what it keeps at the end of
     /// the take and advertise configurations of masters of the roster alone; those of another node are messages under
-    /// its own name, none publishes a hello, and a hello is passed on only where it was handed to the node in this very
+    /// its own name, none publishes a hello, and a hello is passed on only if it was handed to the node in this very
     /// take. Each epoch that an output shows, of a question, a vote, a configuration or a note, is at most `MAX_EPOCH`.
     ///
-    /// The fault is that of the node's state; `NoRoom` is told by a ready node alone, exactly where the outbox doesn't
-    /// fit `room`. Then nothing has changed.
+    /// The fault is that of the node's state; `NoRoom` is told by a ready node alone: if, and only if, the outbox
+    /// doesn't fit `room`. Then nothing has changed.
     ///
     /// Many clauses: what a take moves, what it puts out and what each refusal leaves are asked for one by one by the
     /// world.

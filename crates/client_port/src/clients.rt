@@ -490,9 +490,8 @@ impl Clients {
         }
     }
 
-    /// Has the connections read, answer and send that have something to do, though the system doesn't tell of them: of
-    /// those that wait for what may be stored a single one, so that no client waits for more than one store. It stops
-    /// where the group ends.
+    /// Serves connections with buffered input that `poll` won't report again: at most one whose value may be stored, so
+    /// nobody waits for two fsyncs. It stops when the group ends.
     pub(crate) fn serve_busy<J: Which, S: ConfStore, R: Wait + Clock>(
         &mut self,
         rt: &R,
@@ -581,11 +580,9 @@ impl Clients {
         Vec::new(self.alloc)
     }
 
-    /// Tells the subscribers of each new address and, where connections have courtesies, of each other event that a
-    /// thread of the Sentinel showed since the last turn of the port's thread with this number, which has them, in the
-    /// order in which they came. Where there are many, some are told in this turn and the others in the next ones, so
-    /// that no other client waits until all are; what happens meanwhile they are told after that. `told` has what is
-    /// told until all are.
+    /// Delivers pending events to this thread's subscribers, oldest first; other events than new addresses only in
+    /// Redis's profile. If there are many subscribers, some are told in this turn and the others in the next ones, so
+    /// no other client waits for all of them. `told` has what is being told until all were told.
     pub(crate) fn tell_news<J: Which, S: ConfStore, R: Wait>(
         &mut self,
         rt: &R,

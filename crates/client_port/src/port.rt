@@ -72,9 +72,9 @@ impl Port {
         Port::open_at(net, alloc, sockets, room, &Admission::of_all(alloc))
     }
 
-    /// Lets those in who come to these sockets, with so much room for all of them: what the first thread serves, and
-    /// what each further one does, in their order. The first one accepts, and each connection goes to the thread that
-    /// has the fewest; one for which none has room is closed. Each of them wants the password of who lets them in.
+    /// Makes the port of these sockets, with `room` for all connections together: the part of the first thread, and
+    /// those of the others in their order. The first thread accepts, and hands each connection to the thread with the
+    /// fewest; one for which none has room is closed. Each session wants the password of `admission`.
     ///
     /// An error is the system's; `OutOfMemory` is a refused allocation, and `InvalidInput` comes where a strict profile
     /// would have to want a password, which asks nobody for one: then nothing is opened, and the sockets are closed.
@@ -170,7 +170,7 @@ impl Port {
         unreachable!()
     }
 
-    /// Looks at the connections that are silent. The clock is read for it only where nothing came.
+    /// Looks at the connections that are silent. The clock is read for it only if nothing came.
     fn look_at_silent<R: Clock>(&mut self, rt: &R, state: &RunState) {
         if self.events.is_empty() {
             self.clients.note_time(state.clock.now(rt));

@@ -43,7 +43,7 @@ pub(crate) fn place_of(own: Option<usize>) -> Place
 }
 
 /// A connection that came, with whence it came, the seat that it took, and whether another Sentinel has its ip. One
-/// that `clears` takes a seat only where another one goes.
+/// that `clears` takes a seat only if another one goes.
 #[derive(Drop)]
 pub(crate) struct Newcomer {
     pub(crate) stream: TcpStream,

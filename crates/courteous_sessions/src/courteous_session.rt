@@ -134,9 +134,9 @@ impl CourteousSession {
     /// Takes the next piece of what the client sends, of any length, at a reading of the clock in milliseconds, and
     /// puts out the answer to each value that is whole with it, in their order: that of Pub/Sub, where it has one, else
     /// that of `Session::received`, or the courtesy of the value where it has one. INFO takes a turn where it asks for
-    /// the Sentinel's section, and no other courtesy takes one. Where the connection begins to hear of new addresses,
-    /// by a channel or a pattern, that takes the turn of SUBSCRIBE, since whose entry notes are due to it; nothing else
-    /// of Pub/Sub takes one. Each answer is told in the protocol that the client speaks then: RESP2 until HELLO asks
+    /// the Sentinel's section, and no other courtesy takes one. The first name or pattern that matches `+switch-master`
+    /// runs SUBSCRIBE in a turn; the client gets new addresses from that turn's history entry on. Nothing else of
+    /// Pub/Sub takes a turn. Each answer is told in the protocol that the client speaks then: RESP2 until HELLO asks
     /// for RESP3, where one who listens has all commands.
     ///
     /// `Frame` where the bytes are no RESP2 value: the values before were answered, and `-ERR Protocol error` stands

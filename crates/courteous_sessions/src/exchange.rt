@@ -471,8 +471,8 @@ impl Exchange {
         }
     }
 
-    /// Takes the first value of the bytes that came, where it is a command that comes nearly always and the session
-    /// answers it: no password is wanted that the client didn't give, and the connection listens to nothing.
+    /// Takes the next value if it is one of the three frequent commands, no password is missing and the client has no
+    /// subscription.
     pub(crate) fn next_common(&mut self) -> Option<Command>
         ensures taken { IfSome result (TakesCommon self.old.attendant.held self.new.attendant.held) }
         ensures common { IfSome result (λ command. IsCommon command × IsWithin command) }

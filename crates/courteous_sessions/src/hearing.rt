@@ -205,7 +205,7 @@ impl Exchange {
         )
     }
 
-    /// Has what the connection is told of this text, on the channel of new addresses, join what isn't sent yet.
+    /// Appends the `+switch-master` message with this text to the unsent bytes, once for each matching subscription.
     fn tell_switch(&mut self, text: &[u8]) -> Result<(), NoMemory>
         ensures ok { OnOk result (JoinsTold self.old.attendant.asker.protocol Shape.Pushes (spellings (told self.old.subscriptions switches text.now))
             self.old.responder.unsent.items self.new.responder.unsent.items) }

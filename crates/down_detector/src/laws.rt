@@ -5,7 +5,7 @@ ghost use Rattle.ballot_law.specs.Tilts.{KeepsFirst, KeepsReadings};
 ghost use Rattle.ballot_law.specs.Watches.{KeepsOpening, KeepsReplies, KeepsRoles, KeepsChanges, KeepsDown};
 
 /// What is kept of a node is what the list of all calls on its watch tells, from the opening on and after each further
-/// call. So it is subjectively down by what is kept exactly where it is by all that was heard of it.
+/// call. So it is subjectively down by what is kept if, and only if, it is by all that was heard of it.
 pub fn law_watch_keeps_its_calls()
     ensures opening { KeepsOpening }
     ensures replies { KeepsReplies }

@@ -85,9 +85,9 @@ impl FaultWorld {
     /// A world of fresh nodes, which begins as the model of their roster's group does: with no message, and nothing
     /// elected or said.
     ///
-    /// `NotTheRoster` is told exactly where the nodes aren't each Sentinel and each data node of the roster, once each,
-    /// and clients of different names, or where one of them doesn't know the roster; `DifferentStart` of others,
-    /// exactly where two Sentinels begin with different configurations of a master; `NoMemory` of none of these. A
+    /// `NotTheRoster` is told if, and only if, the nodes aren't each Sentinel and each data node of the roster, once
+    /// each, and clients of different names, or one of them doesn't know the roster; `DifferentStart` of others, if,
+    /// and only if, two Sentinels begin with different configurations of a master; `NoMemory` of none of these. A
     /// refusal hands the nodes back as they were.
     ///
     /// Many clauses: of a world, how it begins, what it has, and which nodes it is of; of a refusal, when it comes and

@@ -32,8 +32,8 @@ fn seat(alloc: Global, mut nodes: Vec<Box<dyn Node>>, members: &mut Vec<Seated>)
 
 /// The members with which the world of these nodes begins, in the order of the nodes. Condition: each node is fresh.
 ///
-/// `NotTheRoster` is told exactly where the nodes aren't each Sentinel and each data node of the roster, once each, and
-/// clients of different names, or where one of them doesn't know the roster; `DifferentStart` of others, exactly where
+/// `NotTheRoster` is told if, and only if, the nodes aren't each Sentinel and each data node of the roster, once each,
+/// and clients of different names, or one of them doesn't know the roster; `DifferentStart` of others, if, and only if,
 /// two Sentinels begin with different configurations of a master; `NoMemory` of none of these. A refusal hands the
 /// nodes back as they were.
 pub fn members_of(

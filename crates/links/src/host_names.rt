@@ -16,10 +16,9 @@ fn is_named(line: &str) -> bool {
     }
 }
 
-/// The INFO of a replica that knows its master by a name, with an address in place of the name that no node has; none
-/// where it has no name or isn't UTF-8. A Sentinel resolves no names: so the replica counts as one of another master,
-/// as with Redis Sentinel, and not as one that says nothing. It may be promoted, and is told to follow the master by
-/// its address. The error is a refused allocation.
+/// Replaces a host name in `master_host` by 0.0.0.0; `None` if there is none, or the INFO isn't UTF-8. A Sentinel
+/// resolves no names: so the replica counts as one of another master, as with Redis Sentinel, and not as one that says
+/// nothing. It may be promoted, and is told to follow the master by its address. The error is a refused allocation.
 pub fn without_names(alloc: Global, info: &[u8]) -> Result<Option<Vec<u8>>, AllocError> {
     let Ok(text) = from_utf8(info) else {
         return Ok(None);

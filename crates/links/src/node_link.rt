@@ -20,10 +20,11 @@ use ballot_law::{Body, Event, Message, NodeName};
 use std::alloc::Global;
 use std::marker::Model;
 
-/// A connection to a node, or the wish for one: its times, and what is asked, held and unsent on it. Its owner has the
-/// socket, opens that where `open` did, and drops it where the connection is closed. A fault closes it, and all that
-/// was on it is lost. What puts something out has the fault `Full`, where more than `UNSENT_MAX` bytes would be unsent
-/// or more than `ASKED_MAX` questions would wait, or `NoMemory`. Each `now` is a reading of one clock in milliseconds.
+/// A link to a node, connected or to be connected: its times, and what is asked, held and unsent on it. Its owner has
+/// the socket, opens that where `open` did, and drops it where the connection is closed. A fault closes it, and all
+/// that was on it is lost. What puts something out has the fault `Full`, where more than `UNSENT_MAX` bytes would be
+/// unsent or more than `ASKED_MAX` questions would wait, or `NoMemory`. Each `now` is a reading of one clock in
+/// milliseconds.
 #[derive(Drop)]
 pub struct NodeLink {
     target: Target,

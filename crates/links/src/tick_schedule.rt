@@ -43,9 +43,9 @@ pub fn turn_of(place: u16, number: u64, turns: u64) -> u64
     (u64::from(place) + number % turns) % turns
 }
 
-/// For how many milliseconds a Sentinel holds its ticks back whose turn to begin a campaign is this one of so many, at
-/// most `HOLD_MAX_MS`: so those that find a master down together begin one after the other, and who begins first has
-/// the votes of the others. Half of each turn goes by lot.
+/// Delay before this Sentinel may campaign, in milliseconds, at most `HOLD_MAX_MS`: its slot (`turn` times the slot's
+/// length) plus up to half a slot, by lot. So Sentinels that find a master down together begin one after the other, and
+/// the first one has the votes of the others.
 pub fn pause_of(turn: u64, turns: u64, lot: u64) -> u64
     requires { turn < turns }
     ensures turn { turn * min SLOT_MAX_MS (HOLD_MAX_MS / turns) ≤ result }

@@ -49,9 +49,8 @@ pub const KEEP_MS: u64 = 100;
 /// together, and the Sentinel is woken once for them.
 pub const REST_MS: u64 = 5;
 
-/// How long it is from an order to follow a master, or none, to the question what came of it, in milliseconds. The
-/// node's clients are sent away by that order, other Sentinels among them, and what comes of it is told by a hello: so
-/// they have as long to listen again.
+/// Delay between REPLICAOF and the INFO that checks it, in milliseconds. The order sends the node's clients away, other
+/// Sentinels among them: they have as long to listen again.
 pub const LOOK_MS: u64 = 100;
 
 /// For how long a replica to which a master hands over is asked to acknowledge its stream beside each INFO, in

@@ -192,9 +192,9 @@ fn info_draft(info: &Info) -> Draft
 
 /// Adds an answer to INFO that says this at the end of a text: the fields in their order, each line ended by CR LF.
 ///
-/// The run id stands only where there is one, and the master's ip and port only where there is an address. The caller
-/// sees to it that the numbers are at most 2^63 - 1 and that the port is above 0. The only fault is `NoMemory`, and
-/// the text is then as it was.
+/// The run id stands only if there is one, and the master's ip and port only if there is an address. The caller sees to
+/// it that the numbers are at most 2^63 - 1 and that the port is above 0. The only fault is `NoMemory`, and the text is
+/// then as it was.
 pub fn write_info(info: &Info, text: &mut OutText) -> Result<(), TextFault>
     requires { IsInfo info.now }
     ensures ok { OnOk result (text.new ≡ text.old ++ info_text info.now) }

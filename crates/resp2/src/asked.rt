@@ -1,4 +1,4 @@
-//! The commands that come nearly always, read where their bytes stand.
+//! The frequent commands, read where their bytes stand.
 //!
 //! Each is known by all the bytes before its own words, with its names in capitals, in small letters, or `SENTINEL` in
 //! capitals and its subcommand in small letters, as client libraries spell them. What these functions don't know is
@@ -206,8 +206,8 @@ fn question_at(bytes: &[u8]) -> Option<(Result<Command, CommandFault>, &[u8])>
     Some((question_of(ip, port, epoch, id), rest))
 }
 
-/// The command at the front and what stands behind it, where it is one of those that come nearly always. The number of
-/// its words, which is its second byte, tells which it may be.
+/// The command at the front and what stands behind it, if it is a frequent one. The number of its words, which is its
+/// second byte, tells which it may be.
 pub(crate) fn asked_at(bytes: &[u8]) -> Option<(Result<Command, CommandFault>, &[u8])>
     ensures found { IfSome result (λ x. Found bytes.now x.0 x.1.now) }
     ensures within { IfSome result (λ x. IfOk x.0 IsWithin) }
@@ -221,8 +221,7 @@ pub(crate) fn asked_at(bytes: &[u8]) -> Option<(Result<Command, CommandFault>, &
     }
 }
 
-/// The command at the front and how many bytes spell it, where it is one of those that come nearly always. No memory is
-/// taken.
+/// The command at the front and how many bytes spell it, if it is a frequent one. No memory is taken.
 pub(crate) fn asked_of(bytes: &[u8]) -> Option<(Result<Command, CommandFault>, usize)>
     ensures found { IfSome result (λ x. Found bytes.now x.0 (drop x.1 bytes.now)) }
     ensures short { IfSome result (λ x. x.1 ≤ length bytes.now) }

@@ -13,9 +13,9 @@ use ballot_law::Command;
 /// `None` where more bytes are needed. It answers what `Frames::next` and then `command_of` would, and leaves what
 /// `next` would leave.
 ///
-/// A command that comes nearly always is read where its bytes stand, with no value made of it and no memory taken:
-/// PING, a question for the address of a master, and the question whether a master is down, each in capitals or in
-/// small letters. All else is read as a value first.
+/// A frequent command is read where its bytes stand, with no value made of it and no memory taken: PING, a question for
+/// the address of a master, and the question whether a master is down, each in capitals or in small letters. All else
+/// is read as a value first.
 ///
 /// `NoMemory` leaves the reader unchanged. Any other fault is one of the bytes: the values before it were given, and
 /// every later call answers it again.

@@ -1,9 +1,8 @@
-//! The commands of a Sentinel's port: which a value of the Redis serialization protocol (RESP2) spells.
+//! Values of the Redis serialization protocol (RESP2) from bytes and to bytes, and the commands of a Sentinel's port.
 //!
-//! `command_of` tells what a value asks of a Sentinel, and `next_command` reads what the next value of a stream asks.
-//! `words_of_items` gives the words of any other command.
-//! The values themselves, their reader and their writer are those of `resp2`, which this crate passes on. The commands
-//! and their faults stand in docs/PROTOCOL.md.
+//! `Frames` and `LongFrames` read values, `write_value` and `push_words` write them. `command_of` tells what a value
+//! asks of a Sentinel, and `next_command` reads what the next value of a stream asks. `words_of_items` gives the words
+//! of any other command. The commands and their faults stand in docs/PROTOCOL.md.
 #![tactic(auto)]
 
 mod asked;

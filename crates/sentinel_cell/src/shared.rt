@@ -175,7 +175,7 @@ impl<S: ConfStore> SharedSentinel<S> {
     /// and got the same answers, and its calls will stand under a number of its own: one above all that the seat knew
     /// to be given out, which no call has that the seat has seen. `join` tells that no other seat has it.
     ///
-    /// `NoSeatLeft` exactly where the share is 1; the seat comes back. No memory is taken.
+    /// `NoSeatLeft` if, and only if, the share is 1; the seat comes back. No memory is taken.
     pub fn split(&self, seat: Seat) -> Result<(Seat, Seat), (Seat, CellFault)>
         requires own { seat.cell ≡ self.now.id }
         ensures cells { IfOk result (λ r. (r.0.cell ≡ seat.cell) × (r.1.cell ≡ seat.cell)) }
@@ -302,7 +302,7 @@ impl<S: ConfStore> SharedSentinel<S> {
 
     /// The stored configuration of the master with this number, by one load of its word: its epoch and its address. It
     /// is that of a legal history which begins with all that the seat had seen, and no older than what that history or
-    /// an earlier answer of the seat showed. It answers while a store is under way, and after a halt; None only where
+    /// an earlier answer of the seat showed. It answers while a store is under way, and after a halt; None only if
     /// there is no such master.
     ///
     /// It waits for nobody, and takes no memory.
@@ -335,8 +335,8 @@ impl<S: ConfStore> SharedSentinel<S> {
     /// the whole of it: it is the seat's front, and each call in it is under one of the seat's numbers, which are those
     /// of all seats that were joined to it.
     ///
-    /// `SeatsOut` exactly where the seat's share isn't the whole, since another seat may then hold the turn; both come
-    /// back untouched. No memory is taken.
+    /// `SeatsOut` if, and only if, the seat's share isn't the whole, since another seat may then hold the turn; both
+    /// come back untouched. No memory is taken.
     pub fn close(self, seat: Seat) -> Result<Keeper<S>, (SharedSentinel<S>, Seat, CellFault)>
         requires own { seat.cell ≡ self.id }
         ensures ok { let start = self.start in IfOk result (λ k. IsLegal start seat.view.front

@@ -161,7 +161,7 @@ fn told_of(plan: &Plan, hello: &Result<Hello, TextFault>) -> Option<u16>
     }
 }
 
-/// Has the state take a hello, and takes down what it may overwrite of what is kept.
+/// Saves in `former` what the hello may change, then takes it.
 fn hear_hello(state: &mut State, now: u64, text: &[u8], former: &mut Undo)
     ensures former { former.new ≡ former_of state.old.core.kept (told_of state.old.plan (hello_of text.now)) }
     ensures state { state.new ≡ with_part state.old (hello_read state.old.plan (clock now) (hello_of text.now) state.old.core) }
@@ -171,8 +171,7 @@ fn hear_hello(state: &mut State, now: u64, text: &[u8], former: &mut Undo)
     take_hello(state, now, hello);
 }
 
-/// Has the state take an event that is no command (`act_on` answers these itself), and takes down what it may overwrite
-/// of what is kept.
+/// Saves in `former` what the event may change, then takes it. `act_on` answers commands itself.
 fn hear(state: &mut State, now: u64, event: &Event, former: &mut Undo)
     ensures former { former.new ≡ former_of state.old.core.kept (concerned state.old.plan event.now state.old.core.kept) }
     ensures state { state.new ≡ with_part state.old (part_of state.old.plan (clock now) event.now state.old.core) }
@@ -218,7 +217,7 @@ fn hear(state: &mut State, now: u64, event: &Event, former: &mut Undo)
     }
 }
 
-/// Holds the answer to a command, and takes down what it may overwrite of what is kept.
+/// Saves in `former` what the command may change, then holds its answer.
 fn hold_answer(
     state: &mut State,
     now: u64,

@@ -95,8 +95,7 @@ fn lock_soon(rt: HostRuntime, file: &File) -> Result<(), TryLockError> {
     file.try_lock()
 }
 
-/// Opens the file three times: where standard input, output or error is closed, that takes its number meanwhile, so
-/// that no lock has it, into whose file would go what is printed.
+/// Opens the file three times, so that the lock never gets descriptor 0, 1 or 2 when these are closed.
 fn stand_in(rt: HostRuntime, path: &str) -> (Option<File>, Option<File>, Option<File>) {
     let first = File::open(&rt, path).ok();
     let second = File::open(&rt, path).ok();

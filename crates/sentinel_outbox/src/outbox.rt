@@ -117,7 +117,7 @@ impl Outbox {
     /// Makes the room for the outputs of one input, in addition to what is held and shown. This is the only call that
     /// takes memory, and it takes none where there is enough room.
     ///
-    /// Both lists stay, and no room becomes less. `NoMemory` comes only where room was missing, and changes nothing.
+    /// Both lists stay, and no room becomes less. `NoMemory` comes only if room was missing, and changes nothing.
     pub fn reserve(&mut self, room: &Room) -> Result<(), NoMemory>
         ensures shown { self.new.shown ≡ self.old.shown }
         ensures held { self.new.held ≡ self.old.held }

@@ -5,8 +5,8 @@ ghost use Rattle.sentinel_outbox.specs.declared.phase.Phase.{Phase};
 
 use crate::phase::Phase;
 
-/// What stores before it shows: a Sentinel, which alone implements it. An outbox shows what a Sentinel holds to one in
-/// `Phase::Stored` alone.
+/// What stores before it shows: as a Sentinel does; who else implements it is believed. An outbox shows what a Sentinel
+/// holds to one in `Phase::Stored` alone.
 pub trait Stores {
     ghost phase: { Self → Phase };
 

@@ -83,7 +83,7 @@ impl<S: ConfStore + Drop> Group<S> {
     /// Opens each Sentinel with the store at its place in the list, and its port for one thread, strict, and makes the
     /// data nodes of the roster and the links.
     ///
-    /// `NotOneRoster` comes exactly where the confs aren't those of one group, or there is another number of stores;
+    /// `NotOneRoster` comes if, and only if, the confs aren't those of one group, or there is another number of stores;
     /// `PortRefused` where a port can't be had, or the process has too few descriptors for any connection; and
     /// `NoMemory`.
     pub fn open<R: Net + Clock + Log>(

@@ -15,8 +15,8 @@ use std::rt::Clock;
 use std::sync::Wait;
 use std::sync::atomic::{AtomicU64, Ordering};
 
-/// What serves the data nodes of a group to clients of their own. By this trait the threads of a group know of it no
-/// more than that it may be sent.
+/// What serves the data nodes of a group to clients of their own. Hides the part's type, so that the threads' `Send`
+/// proof stays small.
 pub trait ServesNodes {
     /// Serves them until `ending` isn't 0.
     fn serve<R: Wait + Clock>(

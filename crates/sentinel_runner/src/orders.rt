@@ -248,8 +248,7 @@ impl<S: ConfStore + Drop> Orders<S> {
     }
 }
 
-/// What follows the orders of an input beside the threads of a group. By this trait `follow_beside` knows of it no more
-/// than that.
+/// What follows the orders of an input beside the threads of a group. Hides the orders' type from `follow_beside`.
 pub(crate) trait FollowsOrders {
     /// Obeys each line of the input until its end, or until it can't be read. A last line without LF is obeyed too.
     fn follow<I: Read, R: Wait + Clock + Log>(

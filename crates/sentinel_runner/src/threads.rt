@@ -18,14 +18,14 @@ use std::sync::Wait;
 use std::sync::atomic::{AtomicU64, Ordering};
 use std::thread::{self, Threads};
 
-/// What the threads of a Sentinel share. By this trait `run_parts` knows of it no more than that it may be shared.
+/// What the threads of a Sentinel share. Hides its type, so that the `Sync` proof of `run_parts` stays small.
 pub(crate) trait Ending {
     /// Ends them, since one of them couldn't be made.
     fn end_for_want(&self);
 }
 
-/// What a thread of a Sentinel does by this runtime, with what they all share. By this trait `run_parts` knows of it no
-/// more than that it may be sent. The runtime is a parameter of the trait and not of its method.
+/// What a thread of a Sentinel does by this runtime, with what they all share. Hides the part's type, so that the
+/// thread's `Send` proof stays small. The runtime is a parameter of the trait and not of its method.
 pub(crate) trait Work<C, R> {
     /// Does it until the threads are to end.
     fn work(self, rt: &R, shared: &C);

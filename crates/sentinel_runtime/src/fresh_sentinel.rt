@@ -1,6 +1,6 @@
 //! A shared Sentinel that was just made.
 
-ghost use Rattle.std.specs.Prelude.{◌≡◌, ◌⊎◌, ◌<◌, ◌≤◌, ◌-◌, ◌^◌, ℕ, [], IfErr, IfOk};
+ghost use Rattle.std.specs.Prelude.{◌≡◌, ◌⊎◌, ◌<◌, ◌≤◌, ◌-◌, ◌^◌, [], IfErr, IfOk};
 ghost use Rattle.sentinel_cell.specs.declared.fault.CellFault.TheVariants.{NoMemory, SeatCount};
 ghost use Rattle.sentinel_cell.specs.declared.shared.TheConstants.{MOST_SEATS};
 ghost use Rattle.sentinel_cell.specs.Histories.{opened};

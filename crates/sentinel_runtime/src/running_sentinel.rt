@@ -382,9 +382,8 @@ impl<J: Which, S: ConfStore> RunningSentinel<J, S> {
         self.cell.roster()
     }
 
-    /// How far its ticks stand after those of the first Sentinel, in milliseconds: each Sentinel has its share of the
-    /// time between two ticks, by its place in the roster. So the first one that begins a failover is heard by the
-    /// others before their own ticks, and has their votes; Redis's Sentinel varies its timer for that.
+    /// Tick offset in ms: Sentinel k of n ticks at k/n of the period, so campaigns don't start together (Redis
+    /// randomises its timer).
     pub(crate) fn phase(&self) -> u64
         ensures { result ≡ phase_of self.now.place (group_size self.now.cell.start.plan) }
     {

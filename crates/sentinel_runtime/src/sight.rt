@@ -1,4 +1,4 @@
-//! What a thread of a Sentinel takes down of it at the end of a turn.
+//! What a thread copies of its Sentinel at the end of a turn.
 
 ghost use Rattle.std.specs.Prelude.{◌≡◌, ◌<◌};
 ghost use Rattle.ballot_law.specs.Clocks.{clock};
@@ -79,10 +79,9 @@ impl Nearness {
     }
 }
 
-/// Who takes down what a thread has to know of a Sentinel at the end of a turn: what its rules noted that nobody took
-/// yet, and of which masters a campaign comes near. `is_switching` is whether a switch is under way that a client asked
-/// for, `current` its current epoch after the last turn, and `settling` how far that has come, where it is looked
-/// after.
+/// Observer: copies what a thread needs at the end of a turn: notices that nobody took yet, and of which masters a
+/// campaign comes near. `is_switching`: a client's switch is under way. `current`: the epoch after the last turn.
+/// `settling`: how far that has come, if it is looked after.
 #[derive(Drop)]
 pub(crate) struct Sight {
     notices: Vec<Notice>,

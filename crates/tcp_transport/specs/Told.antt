@@ -1,5 +1,5 @@
 -- What a connection's bytes tell.
-use Rattle.std.specs.Prelude.{◌≡◌, ℕ, List, ◌∷◌, ◌++◌}
+use Rattle.std.specs.Prelude.{ℕ, List, ◌∷◌, ◌++◌}
 use Rattle.ballot_law.specs.declared.events.Event.{Event}
 use Rattle.ballot_law.specs.declared.messages.Message.{Message}
 use Rattle.links.specs.declared.sessions.questions.Question.{Question}

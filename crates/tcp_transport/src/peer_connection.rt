@@ -329,9 +329,8 @@ impl<J: Which, C: Connects<J>> PeerConnection<J, C> {
         warn!(rt; target: "tcp_wires::wire", "{ip}:{port} refuses to hand over: {why}");
     }
 
-    /// Reads one piece, and hands on what it tells: how long it is; the error says why none was taken, or that more
-    /// comes than a node has to say: then the connection is shut for a second, so that what other nodes say isn't lost
-    /// beside it; or that the node wants a password first, so that the connection is of no use, as in Redis.
+    /// Reads one piece and hands on its events: its length. `InvalidData`: the node exceeded the message rate, and the
+    /// link is closed for one second. `PermissionDenied`: the node wants a password first.
     #[tactic(auto, using(crate::proofs::Hearing::all_takeable))]
     fn read_once<R: Wait + Log>(
         &mut self,

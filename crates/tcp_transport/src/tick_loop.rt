@@ -267,8 +267,8 @@ impl<J: Which> TickLoop<J> {
         true
     }
 
-    /// A turn ended: whether the connections, or all of the program, stood still before it is kept. A long store alone
-    /// is no such time: what was heard meanwhile waits, and is heard before the ticks.
+    /// Ends a turn; records whether this process or its socket thread was suspended. A long store alone doesn't count:
+    /// what was heard meanwhile is heard before the ticks.
     fn end_turn(&mut self, state: &WatchState, now: u64) {
         let turned = state.turned.load(Ordering::SeqCst);
         let stood = state.stood.load(Ordering::SeqCst);

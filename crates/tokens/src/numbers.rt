@@ -56,7 +56,7 @@ pub fn canonical_number_of(bytes: &[u8], low: u64, high: u64) -> Option<u64>
 
 /// Adds a number in decimal at the end of a text.
 ///
-/// `NoMemory` leaves the text as it was, and comes only where the text has no room for the digits.
+/// `NoMemory` leaves the text as it was, and comes only if the text has no room for the digits.
 pub fn add_number(out: &mut Vec<u8>, number: u64) -> Result<(), NoMemory>
     ensures added { OnOk result (out.new.items ≡ out.old.items ++ decimal number) }
     ensures len { OnOk result (vec_len out.new ≡ vec_len out.old + length (decimal number)) }

@@ -145,9 +145,8 @@ impl VoteBook {
         Some(self.current)
     }
 
-    /// Whether so many votes heard for `me` in the epoch, with the own one where it went to `me` in this epoch, are at
-    /// least as many as are needed. `need` is the greater of the majority of all Sentinels and the quorum
-    /// (`Roster::need`).
+    /// Whether `count` votes, plus our own if it went to `me` in this epoch, reach `need`: the greater of the majority
+    /// of all Sentinels and the quorum (`Roster::need`).
     pub fn elects(&self, count: u32, epoch: u64, me: RunId, need: u32) -> bool
         ensures { result ≡ elects self.now count epoch me need }
     {

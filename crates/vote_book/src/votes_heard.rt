@@ -123,7 +123,7 @@ impl Heard {
     }
 
     /// Hears that the voter at this place, one of those that there is room for, voted so. It replaces the vote that is
-    /// kept of the voter only where its epoch is greater.
+    /// kept of the voter only if its epoch is greater.
     pub fn hear(&mut self, voter: u16, candidate: RunId, epoch: u64)
         requires { voter < length self.old }
         ensures voters { length self.new ≡ length self.old }

@@ -38,7 +38,7 @@ pub struct Report {
 impl Report {
     /// What these files make, in the roster's order: each Sentinel with its file, each master with its quorum and the
     /// votes that it needs, each data node, and what is wrong. The roster is that of the first file. They are refused
-    /// exactly where there are some and they aren't those of one group. `NoMemory` leaves nothing.
+    /// if, and only if, there are some and they aren't those of one group. `NoMemory` leaves nothing.
     pub fn of(alloc: Global, files: &[NamedConf]) -> Result<Report, NoMemory>
         ensures refused { IfOk result (λ report. IsTrue report.refused → ¬ (IsOneGroup (λ (file : NamedConf). file.conf) files.now)) }
         ensures other { IfOk result (λ report. IsFalse report.refused → (files.now ≡ []) ⊎ IsOneGroup (λ (file : NamedConf). file.conf) files.now) }

@@ -45,8 +45,8 @@ pub fn law_waits_within_a_frame()
     ensures { (bytes : List ℕ) → frame_at bytes ≡ Err NeedsMore → length bytes ≤ 65536 }
 {}
 
-/// A fault of a stream shows exactly where the grammar's table says so, and is the one that it names; more bytes are
-/// needed exactly where these may still become a frame. No reader stands in the table.
+/// A fault of a stream shows if, and only if, the grammar's table says so, and is the one that it names; more bytes are
+/// needed if, and only if, these may still become a frame. No reader stands in the table.
 pub fn law_faults()
     ensures fault { (bytes : List ℕ) (fault : FrameFault)
         → (frame_at bytes ≡ Err (Faulty fault)) ↔ IsFaulted fault bytes }

@@ -232,7 +232,7 @@ impl ConfStore for MemoryStore {
         ensures asked { IfSome self.old.refusal
             (λ refusal. refusal.passes ≡ 0 → IsErr result) }
         ensures used_up { self.new.refusal ≡ refusal_left self.old.refusal (is_ok result) }
-        // The new text stands behind a refusal only where that was asked for.
+        // The new text stands behind a refusal only if that was asked for.
         ensures refused { OnErr result ((self.new.text ≡ self.old.text)
             ⊎ ((self.old.refusal ≡ Some (record { passes = 0; new = true }))
             × (self.new.text ≡ text.now))) }

@@ -315,7 +315,7 @@ impl Connection {
 /// Where the bytes are no RESP2 value, the values before were answered, `-ERR Protocol error` is written, and the fault
 /// is `Frame`. A value that the end of the stream cuts off gets no answer and is no fault. `Read`, `Write`, `Halted`
 /// and `NoMemory` leave a first part of the answers written, and at most one value more was taken than was answered;
-/// `Halted` comes only where the store counts a failure more, and that value is the one whose store was refused. The
+/// `Halted` comes only if the store counts a failure more, and that value is the one whose store was refused. The
 /// Sentinel has to be ready, and is ready again after any end but `Halted`.
 pub fn serve_stream<N: PortSentinel, R: Read, W: Write, S: ConfStore>(
     alloc: Global,

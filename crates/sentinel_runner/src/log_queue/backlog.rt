@@ -26,7 +26,7 @@ impl Backlog {
         }
     }
 
-    /// A note is to wait: how many were lost right before it, which it tells from now on. None exactly where as many
+    /// A note is to wait: how many were lost right before it, which it tells from now on. None if, and only if, as many
     /// wait as may: then it is lost.
     pub(crate) fn enter(&mut self) -> Option<u64>
         ensures told { IfSome result (λ lost. (lost ≡ self.old.lost) × (self.new.lost ≡ 0) × (self.new.waiting ≡ self.old.waiting + 1)) }
