@@ -12,3 +12,4 @@ pub mod Values
 pub mod Losing
 pub mod OwnWords
 pub mod InPlace
+pub mod SeatCalls

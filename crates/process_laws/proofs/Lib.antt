@@ -28,7 +28,6 @@ pub mod CarriedPieces
 pub mod FilesLeft
 pub mod TwoConnected
 pub mod Watched
-pub mod SeatCalls
 pub mod PortCalls
 pub mod Meanwhile
 pub mod Logins

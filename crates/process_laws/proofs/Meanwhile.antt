@@ -18,7 +18,7 @@ use Rattle.sentinel_cell.specs.Histories.{World}
 use Rattle.sentinel_cell.specs.Standing.{Adds}
 use Rattle.process_laws.specs.Meanwhile.{CallsBetweenAreLater}
 use Rattle.process_laws.specs.SharedConnections.{IsLater}
-use Rattle.process_laws.proofs.SeatCalls.{acted_heard, taken_heard, told_heard}
+use Rattle.courteous_sessions.proofs.SeatCalls.{acted_heard, taken_heard, told_heard}
 
 -- ---- the seat has seen more
 

@@ -15,7 +15,7 @@ use Rattle.sentinel_cell.proofs.Fronts.{calls-append}
 use Rattle.ballot_law.specs.Worlds.{IsFree}
 use Rattle.process_laws.specs.Watched.{IsToldThere}
 use Rattle.process_laws.specs.PortCalls.{CallsHearSo}
-use Rattle.process_laws.proofs.SeatCalls.{acted_heard, taken_heard}
+use Rattle.courteous_sessions.proofs.SeatCalls.{acted_heard, taken_heard}
 
 abbrev MayTake : (told : Event → Type 0) → Event → Type 0
 MayTake told event = IsFree event ⊎ ∥ told event ∥₁
