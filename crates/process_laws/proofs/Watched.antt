@@ -14,9 +14,9 @@ use Rattle.sentinel_cell.specs.declared.entry.Entry.{Entry}
 use Rattle.sentinel_rules.specs.Ignored.{is_noticed}
 use Rattle.sentinel_rules.specs.Plans.{Plan}
 use Rattle.process_laws.specs.Actions.{Action, Opened, Took, Told, IsPublished, actions_after, all_sent, at_first}
-use Rattle.process_laws.specs.Connected.{Deed, Takes, Tells, Life, history_of, action_of, actions_of, IsHeardFrom, MayTake}
+use Rattle.process_laws.specs.Connected.{Deed, Takes, Tells, Life, history_of, action_of, actions_of, AreLives, IsHeardFrom, MayTake, AreConnected}
 use Rattle.process_laws.specs.OwnActions.{place_of, own_of}
-use Rattle.process_laws.specs.Watched.{Connection, IsToldThere, HearsSo, IsOneOf, IsCarriedThere, IsBrought, AreWatched, WatchedAreConnected, WatchedAreSafe}
+use Rattle.process_laws.specs.Watched.{Connection, IsToldThere, IsOneOf, IsCarriedThere, AreWatched, WatchedAreConnected, WatchedAreSafe}
 use Rattle.process_laws.proofs.Connected.{connected_processes_are_safe}
 
 -- ---- an entry in the order of all is one of a process
@@ -73,17 +73,17 @@ in_lives i kept entry asker (life ∷ lives) there =
 
 -- ---- what it took was heard
 
-abbrev Connections : Type 0
-Connections = List Connection
+abbrev MayBeTaken : (told : Event → Type 0) → Event → Type 0
+MayBeTaken told event = IsFree event ⊎ ∥ told event ∥₁
 
-abbrev MayBeTaken : Connections → Event → Type 0
-MayBeTaken stood event = IsFree event ⊎ ∥ IsToldThere stood event ∥₁
+abbrev HearsAll : (told : Event → Type 0) → List Entry → Type 0
+HearsAll told history = AllByRecursion (λ (entry : Entry). MayBeTaken told entry.input.event) history
 
-taken_one : (stood : Connections) (entry : Entry) (history : List Entry) → HearsSo stood history → Among entry history → MayBeTaken stood entry.input.event
-taken_one stood entry [] all there = absurd there
-taken_one stood entry (e ∷ history) all there =
-    ⊎_elim (λ (same : e ≡ entry). subst (λ (x : Entry). MayBeTaken stood x.input.event) same all.0)
-    (λ (rest : Among entry history). taken_one stood entry history all.1 rest) there
+taken_one : (told : Event → Type 0) (entry : Entry) (history : List Entry) → HearsAll told history → Among entry history → MayBeTaken told entry.input.event
+taken_one told entry [] all there = absurd there
+taken_one told entry (e ∷ history) all there =
+    ⊎_elim (λ (same : e ≡ entry). subst (λ (x : Entry). MayBeTaken told x.input.event) same all.0)
+    (λ (rest : Among entry history). taken_one told entry history all.1 rest) there
 
 all_at : (P : Action → Type 0) (before : List Action) (d : Action) (later : List Action) → AllByRecursion P (before ++ d ∷ later) → P d
 all_at P [] d later all = all.0
@@ -102,40 +102,31 @@ free_or_not (Disconnected node) = inl tt
 free_or_not (Refused node) = inl tt
 free_or_not (Become priority offset link_down) = inl tt
 
-module _ (roster : Roster) (before : List Action) (i : ℕ) (stood : Connections) (event : Event) (t : IsToldThere stood event)
-    (c : IsCarriedThere roster before i t.on) where
-  heard_from : (k : ℕ) × IsHeardFrom roster before i k event
-  heard_from =
-      let there : LinkTells (SentinelAt c.number) false t.on.asked t.values (t.before ++ event ∷ t.after) t.left =
-      subst (λ (node : NodeName). LinkTells node false t.on.asked t.values (t.before ++ event ∷ t.after) t.left) c.node_is
-      (subst (λ (listens : Bool). LinkTells t.on.node listens t.on.asked t.values (t.before ++ event ∷ t.after) t.left) c.speaks t.tells) in (
-        c.number,
-        record {
-          within = c.within;
-          asked = t.on.asked;
-          came = t.on.came;
-          told = record { values = t.values; rest = t.rest; parts = t.parts; before = t.before; after = t.after; left = t.left; tells = there };
-          start = c.other;
-          carried = c.carried;
-        },
-      )
-
-brought_there : (roster : Roster) (stores : ℕ) (before : List Action) (i : ℕ) (stood : Connections) (event : Event) (t : IsToldThere stood event)
-    → IsBrought roster stores before i stood event t → ∥ IsPublished stores (all_sent before) event ⊎ ((k : ℕ) × IsHeardFrom roster before i k event) ∥₁
-brought_there roster stores before i stood event t b =
-    ∥∥₁_map b (λ by. ⊎_elim (λ hello. inl hello) (λ c. inr (heard_from roster before i stood event t c)) by)
-
 -- what isn't free was told
-was_told : (stood : Connections) (event : Event) → ¬ IsFree event → MayBeTaken stood event → ∥ IsToldThere stood event ∥₁
-was_told stood event bound may = ⊎_elim (λ free. absurd (bound free)) (λ it. it) may
+was_told : (told : Event → Type 0) (event : Event) → ¬ IsFree event → MayBeTaken told event → ∥ told event ∥₁
+was_told told event bound may = ⊎_elim (λ free. absurd (bound free)) (λ it. it) may
+
+abbrev pub IsPublishedOrHeard : Roster → (stores : ℕ) → (before : List Action) → (i : ℕ) → Event → Type 0
+IsPublishedOrHeard roster stores before i event = ∥ IsPublished stores (all_sent before) event ⊎ ((k : ℕ) × IsHeardFrom roster before i k event) ∥₁
 
 by_notice : (roster : Roster) (plan : Plan) (stores : ℕ) (before : List Action) (i : ℕ) (event : Event) (test : Bool) → is_noticed plan event ≡ test
-    → (is_noticed plan event ≡ true → ∥ IsPublished stores (all_sent before) event ⊎ ((k : ℕ) × IsHeardFrom roster before i k event) ∥₁)
+    → (is_noticed plan event ≡ true → IsPublishedOrHeard roster stores before i event)
     → MayTake roster plan stores before i event
 by_notice roster plan stores before i event true is heard = inr (heard is)
 by_notice roster plan stores before i event false is heard = inl (inr is)
 
-module _ (roster : Roster) (start : Group) (lives : ℕ → List Life) (stood : ℕ → Life → Connections) (order : List Action) (w : AreWatched roster start lives stood order) where
+-- each process took what is free, or what it was told, whatever that is; and what is told, not free, and noticed was published or heard before
+pub record AreToldSo (roster : Roster) (start : Group) (lives : ℕ → List Life) (told : ℕ → Life → Event → Type 0) (order : List Action) : Type 0 where
+  pub lived : (i : ℕ) → i < size roster → AreLives roster i (at_first start i).file (lives i)
+  pub heard : (i : ℕ) → i < size roster → (life : Life) → IsOneOf life (lives i) → ∥ HearsAll (told i life) (history_of life.deeds) ∥₁
+  pub own : (i : ℕ) → i < size roster → own_of i order ≡ actions_of i (lives i)
+  pub no_others : AllByRecursion (λ (d : Action). place_of d < size roster) order
+  pub brought : (i : ℕ) (entry : Entry) (asker : NodeName) (left : KeptText) (before later : List Action) → order ≡ before ++ Took i entry asker left ∷ later
+      → ¬ IsFree entry.input.event → is_noticed (actions_after (at_first start) before i).world.plan entry.input.event ≡ true
+      → (life : Life) → IsOneOf life (lives i) → told i life entry.input.event
+      → IsPublishedOrHeard roster (length start.stores) before i entry.input.event
+
+module _ (roster : Roster) (start : Group) (lives : ℕ → List Life) (told : ℕ → Life → Event → Type 0) (order : List Action) (w : AreToldSo roster start lives told order) where
   took_well : (i : ℕ) (entry : Entry) (asker : NodeName) (left : KeptText) (before later : List Action) → order ≡ before ++ Took i entry asker left ∷ later → i < size roster
       → MayTake roster (actions_after (at_first start) before i).world.plan (length start.stores) before i entry.input.event
   took_well i entry asker left before later cut low =
@@ -145,23 +136,57 @@ module _ (roster : Roster) (start : Group) (lives : ℕ → List Life) (stood : 
       let own : Among d (actions_of i (lives i)) =
       subst (λ (l : List Action). Among d l) (w.own i low) (subst (λ (l : List Action). Among d (own_of i l)) (sym cut) (own_has i before d later refl)) in
       let one = in_lives i left entry asker (lives i) own in
-      let may : ∥ MayBeTaken (stood i one.0) event ∥₁ =
-      ∥∥₁_map (w.heard i low one.0 one.1) (λ all. taken_one (stood i one.0) entry (history_of one.0.deeds) all one.2) in
+      let may : ∥ MayBeTaken (told i one.0) event ∥₁ =
+      ∥∥₁_map (w.heard i low one.0 one.1) (λ all. taken_one (told i one.0) entry (history_of one.0.deeds) all one.2) in
       let heard = λ (bound : ¬ IsFree event) (noticed : is_noticed plan event ≡ true).
-      ∥∥₁_elim may ∥∥₁_prop (λ m. ∥∥₁_elim (was_told (stood i one.0) event bound m) ∥∥₁_prop
-      (λ t. brought_there roster (length start.stores) before i (stood i one.0) event t (w.brought i entry asker left before later cut bound noticed one.0 one.1 t))) in
+      ∥∥₁_elim may ∥∥₁_prop (λ m. ∥∥₁_elim (was_told (told i one.0) event bound m) ∥∥₁_prop
+      (λ t. w.brought i entry asker left before later cut bound noticed one.0 one.1 t)) in
       ⊎_elim (λ free. inl (inl free)) (λ bound. by_notice roster plan (length start.stores) before i event (is_noticed plan event) refl (heard bound)) (free_or_not event)
 
-pub watched_are_connected : WatchedAreConnected
-watched_are_connected roster start lives stood order w = record {
+pub told_are_connected : (roster : Roster) (start : Group) (lives : ℕ → List Life) (told : ℕ → Life → Event → Type 0) (order : List Action)
+    → AreToldSo roster start lives told order → AreConnected roster start lives order
+told_are_connected roster start lives told order w = record {
   lived = w.lived;
   own = w.own;
   no_others = w.no_others;
   heard = λ i entry asker left before later cut.
-      took_well roster start lives stood order w i entry asker left before later cut
+      took_well roster start lives told order w i entry asker left before later cut
       (all_at (λ (d : Action). place_of d < size roster) before (Took i entry asker left) later
       (subst (AllByRecursion (λ (d : Action). place_of d < size roster)) cut w.no_others));
 }
+
+-- ---- told by a connection
+
+-- what came there tells it, and was carried from another Sentinel
+heard_from : (roster : Roster) (before : List Action) (i : ℕ) (stood : List Connection) (event : Event) (t : IsToldThere stood event) → IsCarriedThere roster before i t.on
+    → (k : ℕ) × IsHeardFrom roster before i k event
+heard_from roster before i stood event t c =
+    let there : LinkTells (SentinelAt c.number) false t.on.asked t.values (t.before ++ event ∷ t.after) t.left =
+    subst (λ (node : NodeName). LinkTells node false t.on.asked t.values (t.before ++ event ∷ t.after) t.left) c.node_is
+    (subst (λ (listens : Bool). LinkTells t.on.node listens t.on.asked t.values (t.before ++ event ∷ t.after) t.left) c.speaks t.tells) in (
+      c.number,
+      record {
+        within = c.within;
+        asked = t.on.asked;
+        came = t.on.came;
+        told = record { values = t.values; rest = t.rest; parts = t.parts; before = t.before; after = t.after; left = t.left; tells = there };
+        start = c.other;
+        carried = c.carried;
+      },
+    )
+
+pub watched_are_connected : WatchedAreConnected
+watched_are_connected roster start lives stood order w =
+    told_are_connected roster start lives (λ i life. IsToldThere (stood i life)) order
+    (record {
+      lived = w.lived;
+      heard = w.heard;
+      own = w.own;
+      no_others = w.no_others;
+      brought = λ i entry asker left before later cut bound noticed life one t.
+          ∥∥₁_map (w.brought i entry asker left before later cut bound noticed life one t)
+          (λ by. ⊎_elim (λ hello. inl hello) (λ c. inr (heard_from roster before i (stood i c.life) entry.input.event c.told c.carried)) by);
+    })
 
 pub watched_are_safe : WatchedAreSafe
 watched_are_safe roster start lives stood order ids is w =

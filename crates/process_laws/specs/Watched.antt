@@ -63,9 +63,17 @@ pub record IsCarriedThere (roster : Roster) (before : List Action) (i : ℕ) (on
   pub other : World
   pub carried : IsCarried roster before i (id_of roster number) other on.asked on.came
 
--- what is told there, not free, and noticed: a hello that a Sentinel published before, or it was carried from another Sentinel
-abbrev pub IsBrought : Roster → (stores : ℕ) → (before : List Action) → (i : ℕ) → (stood : List Connection) → (event : Event) → IsToldThere stood event → Type 0
-IsBrought roster stores before i stood event t = ∥ IsPublished stores (all_sent before) event ⊎ IsCarriedThere roster before i t.on ∥₁
+-- a connection of one of these processes tells the event, as it stood at some moment, and what had come on it by then was carried
+pub record IsCarriedIn (roster : Roster) (before : List Action) (i : ℕ) (lives : List Life) (stood : Life → List Connection) (event : Event) : Type 0 where
+  pub life : Life
+  pub is_one : IsOneOf life lives
+  pub told : IsToldThere (stood life) event
+  pub carried : IsCarriedThere roster before i told.on
+
+-- What is told to one of these processes, not free, and noticed: a hello that a Sentinel published before, or it was carried from another Sentinel. A connection tells its
+-- events at all later moments too, when more has come on it: one moment of it is asked for
+abbrev pub IsBrought : Roster → (stores : ℕ) → (before : List Action) → (i : ℕ) → (lives : List Life) → (stood : Life → List Connection) → Event → Type 0
+IsBrought roster stores before i lives stood event = ∥ IsPublished stores (all_sent before) event ⊎ IsCarriedIn roster before i lives stood event ∥₁
 
 -- ---- the processes of a group
 
@@ -77,8 +85,8 @@ pub record AreWatched (roster : Roster) (start : Group) (lives : ℕ → List Li
   pub no_others : AllByRecursion (λ (d : Action). place_of d < size roster) order
   pub brought : (i : ℕ) (entry : Entry) (asker : NodeName) (left : KeptText) (before later : List Action) → order ≡ before ++ Took i entry asker left ∷ later
       → ¬ IsFree entry.input.event → is_noticed (actions_after (at_first start) before i).world.plan entry.input.event ≡ true
-      → (life : Life) → IsOneOf life (lives i) → (t : IsToldThere (stood i life) entry.input.event)
-      → IsBrought roster (length start.stores) before i (stood i life) entry.input.event t
+      → (life : Life) → IsOneOf life (lives i) → IsToldThere (stood i life) entry.input.event
+      → IsBrought roster (length start.stores) before i (lives i) (stood i) entry.input.event
 
 -- such processes are what the law of connected processes asks
 abbrev pub WatchedAreConnected : Type 0

@@ -14,6 +14,7 @@ use Rattle.process_laws.specs.Actions.{Action, Took, IsPublished, actions_after,
 use Rattle.process_laws.specs.Connected.{Life, history_of, file_of, IsOfMasters, actions_of, IsCarried, AreConnected, AreSafe}
 use Rattle.process_laws.specs.Differing.{DifferInNodes}
 use Rattle.process_laws.specs.OwnActions.{place_of, own_of}
+use Rattle.process_laws.specs.Watched.{IsOneOf}
 use Rattle.sentinel_cell.specs.declared.entry.Entry.{Entry}
 use Rattle.sentinel_cell.specs.Histories.{World, IsLegal}
 use Rattle.sentinel_conf.specs.Facts.{IsSoundConf}
@@ -73,10 +74,6 @@ AreWatches roster i file stood (life ∷ lives) = IsWatch roster i file (stood l
 
 -- ---- the network
 
-abbrev pub IsOneOf : Life → List Life → Type 0
-IsOneOf life [] = ⊥
-IsOneOf life (other ∷ lives) = (other ≡ life) ⊎ IsOneOf life lives
-
 -- what came on a connection to this node, for what was asked there, was carried to Sentinel i: the node is another Sentinel, whose port put it out
 pub record IsCarriedFrom (roster : Roster) (before : List Action) (i : ℕ) (start : World) (event : Event) (target : Target) (put got : List ℕ)
     (tells : IsTold (IsReleased start) target put got event) : Type 0 where
@@ -87,11 +84,18 @@ pub record IsCarriedFrom (roster : Roster) (before : List Action) (i : ℕ) (sta
   pub other : World
   pub carried : IsCarried roster before i (id_of roster number) other tells.asked got
 
--- what an event is that is told there and not free, and that the Sentinel notices: a hello that a Sentinel published before, or it was carried from another Sentinel
-abbrev pub IsBrought : Roster → (stores : ℕ) → (before : List Action) → (i : ℕ) → (start : World) → (stood : Target → (put got : List ℕ) → Type 0) → (event : Event)
-    → IsToldThere start stood event → Type 0
-IsBrought roster stores before i start stood event t =
-    ∥ IsPublished stores (all_sent before) event ⊎ IsCarriedFrom roster before i start event t.target t.put t.got t.tells ∥₁
+-- a connection of one of these processes tells the event, as it stood at some moment, and what had come on it by then was carried
+pub record IsCarriedIn (roster : Roster) (before : List Action) (i : ℕ) (lives : List Life) (stood : Life → Target → (put got : List ℕ) → Type 0) (event : Event) : Type 0 where
+  pub life : Life
+  pub is_one : IsOneOf life lives
+  pub told : IsToldThere life.opened (stood life) event
+  pub carried : IsCarriedFrom roster before i life.opened event told.target told.put told.got told.tells
+
+-- What an event is that is told to one of these processes and not free, and that the Sentinel notices: a hello that a Sentinel published before, or it was carried from another
+-- Sentinel. A connection tells its events at all later moments too, when more has come on it: one moment of it is asked for
+abbrev pub IsBrought : Roster → (stores : ℕ) → (before : List Action) → (i : ℕ) → (lives : List Life) → (stood : Life → Target → (put got : List ℕ) → Type 0) → Event
+    → Type 0
+IsBrought roster stores before i lives stood event = ∥ IsPublished stores (all_sent before) event ⊎ IsCarriedIn roster before i lives stood event ∥₁
 
 -- ---- the processes of a group
 
@@ -102,8 +106,8 @@ pub record AreWatched (roster : Roster) (start : Group) (lives : ℕ → List Li
   pub no_others : AllByRecursion (λ (d : Action). place_of d < size roster) order
   pub brought : (i : ℕ) (entry : Entry) (asker : NodeName) (left : KeptText) (before later : List Action) → order ≡ before ++ Took i entry asker left ∷ later
       → ¬ IsFree entry.input.event → is_noticed (actions_after (at_first start) before i).world.plan entry.input.event ≡ true
-      → (life : Life) → IsOneOf life (lives i) → (t : IsToldThere life.opened (stood i life) entry.input.event)
-      → IsBrought roster (length start.stores) before i life.opened (stood i life) entry.input.event t
+      → (life : Life) → IsOneOf life (lives i) → IsToldThere life.opened (stood i life) entry.input.event
+      → IsBrought roster (length start.stores) before i (lives i) (stood i) entry.input.event
 
 -- such processes are what the law of connected processes asks, and so safe
 abbrev pub WatchesAreConnected : Type 0
