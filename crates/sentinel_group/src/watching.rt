@@ -1,12 +1,13 @@
 //! `watch`: one Sentinel that watches Redis servers.
 
-ghost use Rattle.std.specs.Prelude.{◌≡◌, ◌≢◌, [], Ok, IfOk, IfSome};
+ghost use Rattle.std.specs.Prelude.{◌≡◌, ◌≢◌, [], map, Ok, IfOk, IfSome};
 ghost use Rattle.sentinel_conf.specs.Reading.{conf_of_bytes};
 ghost use Rattle.sentinel_conf.specs.Meaning.{last};
-ghost use Rattle.sentinel_conf.specs.Watch.WatchConfs.{watch_settings};
+ghost use Rattle.sentinel_conf.specs.Watch.WatchConfs.{sent_pass, sent_user, watch_settings};
 ghost use Rattle.sentinel_conf.specs.Watch.WatchLines.{own_pass_of};
 ghost use Rattle.sentinel_runner.specs.Opening.{reboots_in};
 ghost use Rattle.sentinel_runner.specs.declared.loaded_conf.Unloaded.TheVariants.{Unreadable};
+ghost use Rattle.tcp_transport.specs.Logins.{login_in};
 
 use crate::command_line::port_threads_of;
 use crate::conf_paths::ConfPath;
@@ -130,7 +131,11 @@ fn taken_settings(
     watch: &WatchConf,
     port: PortSettings,
 ) -> Result<WatchSettings, AllocError>
-    ensures { IfOk result (λ settings. settings.reboots.items ≡ reboots_in watch.now conf.now.roster) }
+    ensures reboots { IfOk result (λ settings. settings.reboots.items ≡ reboots_in watch.now conf.now.roster) }
+    ensures password { IfOk result (λ settings. settings.admission.password ≡ last own_pass_of [] watch.now) }
+    ensures masters { IfOk result (λ settings. settings.logins.of_masters.items ≡ map (login_in watch.now) conf.now.roster.masters) }
+    ensures sentinels { IfOk result (λ settings. settings.logins.of_sentinels
+        ≡ record { user = sent_user watch.now; pass = sent_pass watch.now }) }
 {
     Ok(WatchSettings {
         addresses: addresses_of(alloc, conf, watch)?,

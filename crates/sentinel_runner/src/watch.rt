@@ -1,6 +1,6 @@
 //! One Sentinel of its own, which watches Redis servers and speaks to the other Sentinels over TCP.
 
-ghost use Rattle.std.specs.Prelude.{◌≡◌, ◌≢◌, ◌<◌, ◌≤◌, ◌+◌, ◌-◌, ◌^◌, ℕ, IfErr, IfOk, IfSome, IsSome, IsTrue, Ok, OnOk, length};
+ghost use Rattle.std.specs.Prelude.{◌≡◌, ◌≢◌, ◌<◌, ◌≤◌, ◌+◌, ◌-◌, ◌^◌, ℕ, All, IfErr, IfOk, IfSome, IsSome, IsTrue, Ok, OnOk, length};
 ghost use Rattle.ballot_law.specs.declared.events.Event.{Event};
 ghost use Rattle.ballot_law.specs.declared.messages.Message.{Message};
 ghost use Rattle.ballot_law.specs.declared.messages.Note.{Note};
@@ -170,6 +170,8 @@ fn port_of<R: Net + Log>(
     admission: &Admission,
 ) -> Result<(Port, Vec<Port>), GroupFault>
     ensures threads { IfOk result (λ parts. length parts.1.items + 1 ≡ room.threads) }
+    ensures first { IfOk result (λ parts. parts.0.clients.terms.password ≡ admission.now.password) }
+    ensures others { IfOk result (λ parts. All (λ port. port.clients.terms.password ≡ admission.now.password) parts.1.items) }
     ensures roster { IfErr result (λ fault. fault ≢ NotOneRoster) }
 {
     match Port::open_at(rt, alloc, sockets, room, admission) {
