@@ -1,8 +1,8 @@
 """What the scripts of this folder share: rt's own code, the repository's crates, and the programs that are kept in out/.
 
 No command of rt builds a crate's libraries side by side, or keeps a program that isn't proved, so that is done by rt's own code. What is called
-of it is of kits 13b and 13f; the first keeps nothing of what its gate passed. Called with words, as `tools/kit.py run`, it is `rt` with each sum taken once,
-as in an upper crate rt of kit 13b takes ten minutes for them, and with proofs at work as `at_work` has them. Neither changes what is proved.
+of it is of kits 13b and 13f; the first keeps nothing of what its gate passed. Called with words, as `tools/kit.py run`, it is `rt` with each sum taken once:
+in an upper crate rt of kit 13b takes ten minutes for them.
 """
 import contextlib
 import copy
@@ -24,8 +24,8 @@ import time
 TOP = os.path.dirname(os.path.dirname(os.path.realpath(__file__)))
 OUT = f"{TOP}/out"
 PROGRAM = "sentinel_group"
-# A crate of more lines than that gets four jobs, in the gate three also where no processor is idle.
-LONG, LONG_JOBS = 2_500, 3
+# A crate of more lines than that gets four jobs.
+LONG = 2_500
 # How many programs of each kind stay, the newest, so that whoever goes back to earlier sources finds theirs.
 STAY = 4
 
@@ -42,24 +42,8 @@ def load():
     # (its first call sets a signal's handler, which only the main thread may)
     rt.rtlib.guarded()
     sum_once(rt.rtlib.Crate)
-    at_work(rt)
     os.chdir(TOP)
     return rt
-
-
-def at_work(rt):
-    """Has rt count half of the memory that it takes a check to need, which was never seen to need more: else processors wait for memory. And has a long crate's proof
-    use `LONG_JOBS` jobs: crates above wait for it, and wrong bodies, for which nothing waits, would keep it at one."""
-    need, in_lanes = rt.need, rt.in_lanes
-    rt.need = lambda crate: need(crate) // 2
-
-    def with_jobs(key, task):
-        waits, lines, needs, call = task
-        if key[1] != "proof" or lines <= LONG:
-            return task
-        return waits, lines, needs, lambda given, jobs: call(given, max(jobs, LONG_JOBS))
-
-    rt.in_lanes = lambda tasks: in_lanes({key: with_jobs(key, task) for key, task in tasks.items()})
 
 
 def sum_once(crate):
