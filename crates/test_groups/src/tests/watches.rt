@@ -16,10 +16,10 @@ use std::alloc::{AllocError, Global};
 use std::io::{self, Read, Write};
 use std::net::{Ipv4Addr, Net, SocketAddr, TcpListener, TcpStream};
 use std::rt::Clock;
-use std::sync::Wait;
 use std::sync::atomic::Ordering;
+use std::sync::{Arc, Wait};
 use std::test::Fail;
-use std::thread::{self, Threads};
+use std::thread::{self, JoinHandle, Threads};
 use std::time::Duration;
 use tcp_transport::Logins;
 
@@ -136,7 +136,7 @@ fn is_given<R: Clock, T: Read + Write>(
     Ok(false)
 }
 
-/// Who talks, which a thread of its own does.
+/// Who talks, which a thread of its own does: of what kind it is that thread needn't know.
 trait Talks {
     /// Talks to a Sentinel that runs until it has ended, and tells what was seen.
     fn talk<R: Clock>(self, rt: &R, play: &Play) -> io::Result<Seen>;
@@ -144,15 +144,15 @@ trait Talks {
 
 /// Two clients of a Sentinel at its port, of which one listens to new addresses, and its file.
 #[derive(Drop)]
-struct Clients<'a, T> {
+struct Clients<T> {
     alloc: Global,
     ports: Ports,
     client: T,
     listener: T,
-    told: &'a Told,
+    told: Arc<Told>,
 }
 
-impl<T: Read + Write> Clients<'_, T> {
+impl<T: Read + Write> Clients<T> {
     /// Whether the address of the master is at this port.
     fn is_shown(&mut self, port: u16) -> io::Result<bool> {
         let wanted = address_of(self.alloc, port)?;
@@ -224,7 +224,7 @@ impl<T: Read + Write> Clients<'_, T> {
     }
 }
 
-impl<T: Read + Write + Drop> Talks for Clients<'_, T> {
+impl<T: Read + Write + Drop> Talks for Clients<T> {
     fn talk<R: Clock>(mut self, rt: &R, play: &Play) -> io::Result<Seen> {
         let seen = self.look(rt, play);
         // (a Sentinel that is halted may close the connection before all was sent)
@@ -237,52 +237,34 @@ impl<T: Read + Write + Drop> Talks for Clients<'_, T> {
 /// How a Sentinel ended: whether it is here again, and its fault.
 type Ended = (bool, Result<(), GroupFault>);
 
-/// What runs on the thread that has the handle of the sockets. By this trait the other threads know nothing of that.
-trait Runs {
-    /// Runs it to its end.
-    fn run(self) -> Ended;
+/// Has nodes play on a thread of their own: whether it could be made.
+fn begin_play<P, R>(rt: &R, nodes: P, play: Arc<Play>) -> bool
+where
+    P: Plays + Drop + Send + 'static,
+    R: Threads + Clock + Copy + Drop + Send + 'static,
+{
+    let own = *rt;
+    thread::spawn(rt, move || nodes.play(&own, &play)).is_ok()
 }
 
-/// A Sentinel that is open, with the handle by which it runs.
-#[derive(Drop)]
-struct Begun<'a, S: ConfStore, R> {
-    rt: &'a R,
-    watch: Watch<S>,
+/// Has clients talk on a thread of their own, if one can be made.
+fn begin_talk<T, R>(rt: &R, clients: T, play: Arc<Play>) -> Option<JoinHandle<io::Result<Seen>>>
+where
+    T: Talks + Drop + Send + 'static,
+    R: Threads + Clock + Copy + Drop + Send + 'static,
+{
+    let own = *rt;
+    thread::spawn(rt, move || clients.talk(&own, &play)).ok()
 }
 
-impl<S, R> Runs for Begun<'_, S, R>
+/// Runs a Sentinel that is open to its end.
+fn run_open<S, R>(rt: &R, watch: Watch<S>) -> Ended
 where
     S: ConfStore + Drop + Send,
     R: Threads + Wait + Net + Clock + ReadsTimes + Log + Sync,
 {
-    fn run(self) -> Ended {
-        let Begun { rt, watch } = self;
-        let (left, ended) = watch.run(rt);
-        (left.is_some(), ended)
-    }
-}
-
-/// Runs a Sentinel on this thread beside nodes and clients: how it ended, and what the clients saw; `None` where a
-/// thread couldn't be made.
-fn run_beside<'a, W, P, T, R>(
-    rt: &'a R,
-    play: &'a Play,
-    begun: W,
-    nodes: P,
-    clients: T,
-) -> (Ended, Option<io::Result<Seen>>)
-where
-    W: Runs + Drop,
-    P: Plays + Drop + Send,
-    T: Talks + Drop + Send,
-    R: Threads + Wait + Clock + Sync,
-{
-    thread::scope(thread::scope_env(), rt, |scope| {
-        let _plays = scope.spawn(move || nodes.play(rt, play));
-        let talks = scope.spawn(move || clients.talk(rt, play));
-        let ended = begun.run();
-        (ended, talks.ok().map(|talks| talks.join(rt)))
-    })
+    let (left, ended) = watch.run(rt);
+    (left.is_some(), ended)
 }
 
 /// The file of a Sentinel that needs the other one's vote.
@@ -330,9 +312,14 @@ fn opened<'a, R: Net + Clock + Log>(
     told: &'a Told,
 ) -> Option<Watch<ToldFile<'a, R>>> {
     let text = text_of(alloc, ports).ok()?;
-    let store = ToldFile::holding(alloc, told, text.as_bytes()).ok()?;
-    let loaded = LoadedConf::load(alloc, store).ok()?;
-    Watch::open(rt, alloc, loaded, settings(alloc, ports.own).ok()?).ok()
+    let settings = settings(alloc, ports.own).ok()?;
+    let Ok(store) = ToldFile::holding(alloc, told, text.as_bytes()) else {
+        return None;
+    };
+    let Ok(loaded) = LoadedConf::load(alloc, store) else {
+        return None;
+    };
+    Watch::open(rt, alloc, loaded, settings).ok()
 }
 
 /// What is to be seen.
@@ -401,32 +388,64 @@ where
     Ok((heard.nodes(alloc, ports)?, ports))
 }
 
-/// The clients of a Sentinel that is open at its port.
-fn clients_of<'a, R: Net<Stream = TcpStream>>(
-    rt: &R,
+/// What is beside a Sentinel: where all are, how far the play is, and what its file was told.
+#[derive(Drop)]
+struct Scene {
     alloc: Global,
     ports: Ports,
-    told: &'a Told,
-) -> io::Result<Clients<'a, TcpStream>> {
+    play: Arc<Play>,
+    told: Arc<Told>,
+}
+
+/// The clients of a Sentinel that is open at its port.
+fn clients_of<R: Net<Stream = TcpStream>>(rt: &R, scene: &Scene) -> io::Result<Clients<TcpStream>> {
     Ok(Clients {
-        alloc,
-        ports,
-        client: client_at(rt, ports.own)?,
-        listener: client_at(rt, ports.own)?,
-        told,
+        alloc: scene.alloc,
+        ports: scene.ports,
+        client: client_at(rt, scene.ports.own)?,
+        listener: client_at(rt, scene.ports.own)?,
+        told: Arc::try_clone(&scene.told)?,
     })
+}
+
+/// Runs a Sentinel that is open, beside its clients: how it ended, and what they saw.
+fn run_in<S, R>(rt: &R, scene: Scene, watch: Watch<S>) -> Result<(Ended, Seen), Fail>
+where
+    S: ConfStore + Drop + Send,
+    R: Threads + Wait + Net<Stream = TcpStream> + Clock + ReadsTimes + Log,
+    R: Sync + Copy + Drop + Send + 'static,
+{
+    let clients = clients_of(rt, &scene)?;
+    match begin_talk(rt, clients, scene.play) {
+        Some(talks) => {
+            let ended = run_open(rt, watch);
+            Ok((ended, talks.join(rt)?))
+        }
+        None => Err(Fail::from("no thread")),
+    }
 }
 
 #[test]
 fn a_watch_is_elected_and_tells_so(rt: HostRuntime) -> Result<(), Fail> {
     let alloc = rt.alloc();
     let (nodes, ports) = listening_nodes(&rt, alloc)?;
-    let (play, told) = (Play::new(), Told::new());
-    let watch = opened(&rt, alloc, ports, &told).ok_or("no Sentinel")?;
-    let clients = clients_of(&rt, alloc, ports, &told)?;
-    let begun = Begun { rt: &rt, watch };
-    let (ended, seen) = run_beside(&rt, &play, begun, nodes, clients);
-    assert_eq!(rt; seen.ok_or("no thread")??, WANTED);
+    let play = Arc::new(alloc, Play::new())?;
+    let told = Arc::new(alloc, Told::new())?;
+    assert!(rt;
+        begin_play(&rt, nodes, Arc::try_clone(&play)?),
+        "a thread of the nodes"
+    );
+    let scene = Scene {
+        alloc,
+        ports,
+        play: Arc::try_clone(&play)?,
+        told: Arc::try_clone(&told)?,
+    };
+    let (ended, seen) = match opened(&rt, alloc, ports, &told) {
+        Some(watch) => run_in(&rt, scene, watch)?,
+        None => return Err(Fail::from("no Sentinel")),
+    };
+    assert_eq!(rt; seen, WANTED);
     assert_eq!(rt; ended, (true, Err(GroupFault::Halted)));
     assert_eq!(rt; play.hellos.load(Ordering::SeqCst), ALL_HELLOS);
     assert!(rt;
