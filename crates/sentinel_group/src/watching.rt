@@ -3,8 +3,9 @@
 ghost use Rattle.std.specs.Prelude.{◌≡◌, ◌≢◌, [], map, Ok, IfOk, IfSome};
 ghost use Rattle.sentinel_conf.specs.Reading.{conf_of_bytes};
 ghost use Rattle.sentinel_conf.specs.Meaning.{last};
-ghost use Rattle.sentinel_conf.specs.Watch.WatchConfs.{sent_pass, sent_user, watch_settings};
+ghost use Rattle.sentinel_conf.specs.Watch.WatchConfs.{sent_pass, sent_user};
 ghost use Rattle.sentinel_conf.specs.Watch.WatchLines.{own_pass_of};
+ghost use Rattle.sentinel_group.specs.ToldSettings.{IsSaidIn};
 ghost use Rattle.sentinel_runner.specs.Opening.{reboots_in};
 ghost use Rattle.sentinel_runner.specs.declared.loaded_conf.Unloaded.TheVariants.{Unreadable};
 ghost use Rattle.tcp_transport.specs.Logins.{login_in};
@@ -156,7 +157,7 @@ fn port_of(words: &ArgMatches) -> PortSettings {
 }
 
 /// What the lines of a file say that count for `watch` alone. A fault is told, and the status tells it too.
-/// Contracts see for how long each master may load its data, by the lines.
+/// Contracts see for how long each master may load its data, and the passwords.
 fn settings_of(
     rt: HostRuntime,
     path: &str,
@@ -164,8 +165,7 @@ fn settings_of(
     text: &[u8],
     port: PortSettings,
 ) -> Result<WatchSettings, ExitCode>
-    ensures { IfOk result (λ settings. IfOk (watch_settings conf.now text.now)
-        (λ said. settings.reboots.items ≡ reboots_in said conf.now.roster)) }
+    ensures { IfOk result (λ settings. IsSaidIn conf.now text.now settings) }
 {
     let watch = match read_watch(rt.alloc(), conf, text) {
         Ok(watch) => watch,
@@ -203,7 +203,7 @@ fn with_notes<'a, S: TellsFault + Drop, R: Log>(
     path: &str,
     loaded: LoadedConf<S>,
 ) -> Result<LoadedConf<NotedStore<'a, S, R>>, AllocError>
-    ensures { IfOk result (λ noted. (noted.conf ≡ loaded.conf) × (noted.store ≡ loaded.store)) }
+    ensures { IfOk result (λ noted. (noted.conf ≡ loaded.conf) × (noted.text ≡ loaded.text) × (noted.store ≡ loaded.store)) }
 {
     let (conf, text, store) = loaded.into_parts();
     let store = NotedStore::of(rt, noting, store, conf.port(), path)?;
@@ -212,6 +212,7 @@ fn with_notes<'a, S: TellsFault + Drop, R: Log>(
 
 /// What this store at the path holds makes of a Sentinel; the store's notes go to the log of `noting`. A text that is
 /// refused is told, with all that is wrong with it, and the status tells it too.
+#[tactic(auto, using(crate::proofs::ToldSettings::said_as))]
 fn file_in<'a, S: TellsFault + Drop, R: Log>(
     rt: HostRuntime,
     noting: &'a R,
@@ -222,6 +223,7 @@ fn file_in<'a, S: TellsFault + Drop, R: Log>(
     requires { S.failure_count store ≡ 0 }
     ensures held { IfOk result (λ file. S.held file.loaded.store ≡ S.held store) }
     ensures text { IfOk result (λ file. IfSome (S.held store) (λ bytes. conf_of_bytes bytes ≡ Ok file.loaded.conf)) }
+    ensures settings { IfOk result (λ file. IsSaidIn file.loaded.conf file.loaded.text file.settings) }
     ensures store { IfOk result (λ file. S.failure_count file.loaded.store ≡ 0) }
 {
     let loaded = match LoadedConf::load(rt.alloc(), store) {
@@ -243,7 +245,8 @@ fn watch_file<'a, R: Log>(
     path: &ConfPath<'_>,
     port: PortSettings,
 ) -> Result<WatchFile<NotedFile<'a, R>>, ExitCode>
-    ensures { IfOk result (λ file. file.loaded.store ≡ 0) }
+    ensures store { IfOk result (λ file. file.loaded.store ≡ 0) }
+    ensures settings { IfOk result (λ file. IsSaidIn file.loaded.conf file.loaded.text file.settings) }
 {
     match store_at(rt, path) {
         Ok(store) => file_in(rt, noting, path.named(), store, port),
@@ -257,7 +260,8 @@ fn locked_file<'a, R: Log>(
     noting: &'a R,
     words: &ArgMatches,
 ) -> Result<(WatchFile<NotedFile<'a, R>>, FileLock), ExitCode>
-    ensures { IfOk result (λ locked. locked.0.loaded.store ≡ 0) }
+    ensures store { IfOk result (λ locked. locked.0.loaded.store ≡ 0) }
+    ensures settings { IfOk result (λ locked. IsSaidIn locked.0.loaded.conf locked.0.loaded.text locked.0.settings) }
 {
     let Ok(path) = ConfPath::of(rt, words.get_str("conf").unwrap_or("")) else {
         return Err(fail(&rt, ServeFault::NoMemory));

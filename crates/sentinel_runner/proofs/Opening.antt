@@ -1,6 +1,8 @@
 -- A Sentinel that is opened begins its history at the world of its conf.
-use Rattle.std.proofs.Common.{◌≡◌, ◌∙◌, ◌<◌, ℕ, List, ap, refl, sym, subst}
+use Rattle.std.proofs.Common.{◌≡◌, ◌∙◌, ◌<◌, ℕ, List, All, ap, refl, sym, subst}
+use Rattle.std.specs.Global.{Vec}
 use Rattle.std.specs.Prelude.{Option, None, Some, Result, Ok, IfSome}
+use Rattle.client_port.specs.declared.port.Port.{Port}
 use Rattle.sentinel_cell.specs.declared.keeper.Keeper.{Keeper}
 use Rattle.sentinel_cell.specs.Histories.{World, opened}
 use Rattle.sentinel_conf.specs.Meaning.{ConfPlan}
@@ -48,3 +50,10 @@ pub opens_held : (held : Option (List ℕ)) (text : List ℕ) (conf given : Conf
 opens_held None text conf given profile reboots start reads holds is opens = tt
 opens_held (Some bytes) text conf given profile reboots start reads holds is opens =
     ap conf_of_bytes (sym holds) ∙ (reads ∙ ap (λ (c : ConfPlan). Ok c) (sym (opens.opens.conf_is ∙ is)))
+
+-- the parts of a port want the password of the settings, which is that of who lets its clients in
+pub want_as : (given wanted : List ℕ) (ports kept : Vec Port) → kept ≡ ports → given ≡ wanted
+    → All (λ (port : Port). port.clients.terms.password ≡ given) ports.items → All (λ (port : Port). port.clients.terms.password ≡ wanted) kept.items
+want_as given wanted ports kept is same all =
+    subst (λ (pass : List ℕ). All (λ (port : Port). port.clients.terms.password ≡ pass) kept.items) same
+    (subst (λ (parts : Vec Port). All (λ (port : Port). port.clients.terms.password ≡ given) parts.items) (sym is) all)

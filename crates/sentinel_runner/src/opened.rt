@@ -152,6 +152,7 @@ impl<S: ConfStore + Drop> Opened<S> {
         requires threads { length ports.1.items + 1 ≡ room.threads }
         ensures roster { IfErr result (λ fault. fault ≢ NotOneRoster) }
         ensures seats { IfOk result (λ opened. opened.beside ≡ beside) }
+        ensures ports { IfOk result (λ opened. (opened.port ≡ ports.0) × (opened.others ≡ ports.1)) }
         ensures start { IfOk result (λ opened. IsOpenedBy beginning.conf room.profile beginning.reboots.items
             beginning.now (S.held beginning.store) opened.fresh.cell.start) }
     {

@@ -99,6 +99,8 @@ fn wires_of<R: Net>(
     conf: &Conf,
     logins: Logins,
 ) -> Result<PlannedConnections, GroupFault>
+    ensures nodes { IfOk result (λ wires. wires.roster ≡ conf.now.roster) }
+    ensures logins { IfOk result (λ wires. wires.logins ≡ logins) }
     ensures roster { IfErr result (λ fault. fault ≢ NotOneRoster) }
 {
     match PlannedConnections::of(rt, alloc, conf, logins) {
@@ -200,6 +202,7 @@ fn opened_of<S: ConfStore + Drop>(
     requires threads { length ports.1.items + 1 ≡ room.threads }
     ensures roster { IfErr result (λ fault. fault ≢ NotOneRoster) }
     ensures seats { IfOk result (λ opened. opened.beside ≡ BESIDE) }
+    ensures ports { IfOk result (λ opened. (opened.port ≡ ports.0) × (opened.others ≡ ports.1)) }
     ensures start { IfOk result (λ opened. IsOpenedAnew conf room.profile reboots.items 0 opened.fresh.cell.start) }
 {
     prove_store(alloc, &conf, &mut store)?;
@@ -218,8 +221,10 @@ impl<S: ConfStore + Drop> Watch<S> {
     /// the conf keeps is stored once its port is had, which is served after that: where the port can't be had the store
     /// is as it was.
     ///
-    /// `Halted` where the store refuses that, `PortRefused` where a port can't be had, or would have to want a password
-    /// of clients by a strict profile, which asks nobody for one, and `NoMemory`: `NotOneRoster` never comes.
+    /// Each thread of the port wants the password of the settings, and the connections log in by the settings' logins.
+    ///
+    /// `Halted` where the store refuses the text, `PortRefused` where a port can't be had, or would have to want a
+    /// password of clients by a strict profile, which asks nobody for one, and `NoMemory`: `NotOneRoster` never comes.
     #[tactic(auto, using(crate::proofs::Opening::opens_as))]
     pub fn open<R: Net + Clock + Log>(
         rt: &R,
@@ -232,6 +237,10 @@ impl<S: ConfStore + Drop> Watch<S> {
             (λ bytes. conf_of_bytes bytes ≡ Ok watch.watching.opened.fresh.cell.start.plan.conf)) }
         ensures start { IfOk result (λ watch. IsOpenedAnew loaded.conf settings.port.profile settings.reboots.items 0
             watch.watching.opened.fresh.cell.start) }
+        ensures client { IfOk result (λ watch. watch.watching.opened.port.clients.terms.password ≡ settings.admission.password) }
+        ensures clients { IfOk result (λ watch. All (λ port. port.clients.terms.password ≡ settings.admission.password)
+            watch.watching.opened.others.items) }
+        ensures logins { IfOk result (λ watch. (watch.wires.logins ≡ settings.logins) × (watch.wires.roster ≡ loaded.conf.roster)) }
         ensures roster { IfErr result (λ fault. fault ≢ NotOneRoster) }
     {
         let WatchSettings {

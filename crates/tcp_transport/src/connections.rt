@@ -1,6 +1,6 @@
 //! All connections of a Sentinel.
 
-ghost use Rattle.std.specs.Prelude.{◌≡◌};
+ghost use Rattle.std.specs.Prelude.{◌≡◌, IfOk};
 ghost use Rattle.links.specs.Speaking.{login_bytes};
 ghost use Rattle.tcp_transport.specs.Logins.{sent_to};
 
@@ -135,13 +135,17 @@ fn login_of<'a>(roster: &Roster, logins: &'a Logins, node: NodeName) -> Login<'a
 }
 
 impl PlannedConnections {
-    /// The connections of the Sentinel of this conf. The error is the system's; `OutOfMemory` is a refused allocation.
+    /// The connections of the Sentinel of this conf, with these logins. The error is the system's; `OutOfMemory` is a
+    /// refused allocation.
     pub fn of<N: Net>(
         net: &N,
         alloc: Global,
         conf: &Conf,
         logins: Logins,
-    ) -> io::Result<PlannedConnections> {
+    ) -> io::Result<PlannedConnections>
+        ensures roster { IfOk result (λ planned. planned.roster ≡ conf.now.roster) }
+        ensures logins { IfOk result (λ planned. planned.logins ≡ logins) }
+    {
         let Ok(roster) = conf.roster().copy(alloc) else {
             return Err(io::Error::from(ErrorKind::OutOfMemory));
         };
@@ -162,7 +166,10 @@ impl PlannedConnections {
     pub fn named<J: Which, C: Connects<J> + Drop>(
         self,
         net: C,
-    ) -> io::Result<(Connections<J, C>, SentinelEnd<J>)> {
+    ) -> io::Result<(Connections<J, C>, SentinelEnd<J>)>
+        ensures roster { IfOk result (λ both. both.0.roster ≡ self.roster) }
+        ensures logins { IfOk result (λ both. both.0.logins ≡ self.logins) }
+    {
         let PlannedConnections {
             poll,
             told,
