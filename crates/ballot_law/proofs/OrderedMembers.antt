@@ -1,5 +1,5 @@
 -- What puts a list in order keeps its elements where no two of them tie, so a roster is in order and has the members that were given.
-use Rattle.std.proofs.Common.{◌≡◌, ℕ, ◌+◌, ◌<◌, ◌≤◌, Bool, true, false, ◌||◌, ◌&&◌, eqb, ltb, List, [], ◌∷◌, ◌++◌, length, get_or, map, None, refl, ap, sym, ◌∙◌, subst, arith}
+use Rattle.std.proofs.Common.{◌≡◌, ℕ, ◌+◌, Bool, true, false, ◌||◌, ◌&&◌, eqb, ltb, List, [], ◌∷◌, ◌++◌, get_or, map, None, refl, sym, ◌∙◌, subst, arith}
 use Rattle.std.specs.List.{list_any, flat_map, All, AllZip}
 use Rattle.std.specs.List.Sorted.{IsSortedBy, IsPermutation}
 use Rattle.std.proofs.lemmas.Bool.{or_parts, or_from, or_cases, and_right, true≢false}
@@ -7,7 +7,6 @@ use Rattle.std.proofs.lemmas.Bool.Decides.{nat_tests}
 use Rattle.std.proofs.lemmas.List.Elements.{All-nil, All-cons, All-head, All-tail, All-get_or}
 use Rattle.std.proofs.lemmas.List.Sorted.{IsPermutation-refl, IsPermutation-trans, IsPermutation-cons, IsPermutation-middle}
 use Rattle.ballot_law.specs.declared.addresses.Addr.{Addr}
-use Rattle.ballot_law.specs.declared.addresses.RunId.{RunId}
 use Rattle.ballot_law.specs.declared.rosters.Member.{Member}
 use Rattle.ballot_law.specs.Ordered.{add, in_order, repeats}
 use Rattle.ballot_law.specs.Orders.{same_addr, same_id, same_bytes, addr_before, id_before, bytes_before}
@@ -16,7 +15,7 @@ use Rattle.ballot_law.specs.RosterFaults.{tests, fault_of}
 use Rattle.ballot_law.specs.RosterOrder.{IsInOrder, IsSameMaster, HasSameMembers}
 use Rattle.ballot_law.proofs.Fits.{none_fits}
 use Rattle.ballot_law.proofs.Placing.{add_at, add_before, in_order_all}
-use Rattle.ballot_law.proofs.Rising.{IsStrict, Rises, in_order_rises, rises_at, strict_by, first_then_on, less_not, less_on, id_strict, bytes_strict}
+use Rattle.ballot_law.proofs.Rising.{IsStrict, in_order_rises, rises_at, strict_by, first_then_on, less_not, less_on, id_strict, bytes_strict}
 
 module _ {X : Type 0} (before : X → X → Bool) where
   -- one of the two stands before the other

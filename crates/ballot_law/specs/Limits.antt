@@ -1,5 +1,5 @@
 -- Which numbers may stand in a command, an event, a message and an output.
-use Rattle.std.specs.Prelude.{ℕ, ◌≤◌, List, IfSome}
+use Rattle.std.specs.Prelude.{ℕ, ◌≤◌, IfSome}
 use Rattle.std.specs.List.{AllByRecursion}
 use Rattle.ballot_law.specs.declared.cards.Shown.{Shown}
 use Rattle.ballot_law.specs.declared.cards.TheConstants.{MAX_EPOCH}

@@ -1,12 +1,11 @@
 -- What a data node says to a client of its port.
-use Rattle.std.proofs.Common.{◌≡◌, ◌∙◌, ◌++◌, ℕ, List, [], ◌∷◌, Option, Some, None, Result, Ok, Err, sym, ap, subst, inl, inr}
+use Rattle.std.proofs.Common.{◌≡◌, ◌∙◌, ◌++◌, ℕ, List, [], ◌∷◌, Result, Ok, Err, sym, ap, subst, inl, inr}
 use Rattle.std.specs.Prelude.{◌⊎◌, IfSome, OnOk, OnErr}
 use Rattle.ballot_law.specs.declared.events.Event.TheVariants.{Handed}
 use Rattle.ballot_law.specs.declared.messages.NodeName.{NodeName}
 use Rattle.ballot_law.specs.declared.messages.Output.{Output}
-use Rattle.ballot_law.specs.declared.replies.Info.{Info}
 use Rattle.boxed_nodes.specs.Data.Nodes.{DataPlan}
-use Rattle.boxed_nodes.specs.Data.Servers.{Server, changed_by, info_of, said}
+use Rattle.boxed_nodes.specs.Data.Servers.{changed_by, info_of, said}
 use Rattle.sentinel_outbox.specs.Outboxes.{Outputs}
 use Rattle.channel_transport.specs.DataNodes.{client_question, first_info}
 

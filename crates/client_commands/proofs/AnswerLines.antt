@@ -2,11 +2,10 @@
 use Rattle.std.proofs.Common.{◌≡◌, ◌≢◌, ◌+◌, ◌-◌, ◌||◌, ◌&&◌, ◌==◌, not, ℕ, zero, suc, List, [], ◌∷◌, ◌++◌, map, take, length, Option, None, Some, Bool, true, false, codes, refl, sym, ◌∙◌, ap, subst, arith}
 use Rattle.std.specs.Prelude.{nat_lt, nat_le, bytes_eq}
 use Rattle.std.specs.List.{list_all}
-use Rattle.std.proofs.lemmas.Bool.{and_parts}
 use Rattle.ballot_law.specs.Rosters.{MasterPlan, Roster}
 use Rattle.ballot_law.specs.Words.{lower, canonical_within}
 use Rattle.pubsub.specs.Answering.{wrong_arguments}
-use Rattle.resp2.specs.Framing.Frame.{Frame, simple, fault, bulk, frames_of, IsLine, HasLines, HaveLines}
+use Rattle.resp2.specs.Framing.Frame.{Frame, fault, bulk, IsLine, HasLines, HaveLines}
 use Rattle.client_commands.specs.declared.verbs.Verb.{Verb}
 use Rattle.client_commands.specs.declared.verbs.Verb.TheVariants.{Ping, Hello, Auth, SetName, SetInfo, GetName, Id, OfClients, Own, Kill, NoEvict, Reply, HelpOfClient, Commands, Docs, Count, InfoOfCommands, ListOfCommands, HelpOfCommand, Role, Publish, Info, Sentinel}
 use Rattle.client_commands.specs.declared.subcommands.Sub.{Sub}

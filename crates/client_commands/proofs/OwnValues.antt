@@ -1,5 +1,5 @@
 -- A value that the Sentinel's rules answer is left to them.
-use Rattle.std.proofs.Common.{◌≡◌, ◌∙◌, ◌⊎◌, inl, inr, Option, None, Some, Bool, true, false, Result, Ok, Err, refl, sym, ap}
+use Rattle.std.proofs.Common.{◌≡◌, ◌∙◌, ◌⊎◌, inl, inr, Option, None, Bool, true, false, Result, Ok, Err, refl, ap}
 use Rattle.ballot_law.specs.declared.commands.Command.{Command}
 use Rattle.ballot_law.specs.Rosters.{Roster}
 use Rattle.resp2.specs.declared.command.CommandFault.{CommandFault}
@@ -8,7 +8,7 @@ use Rattle.resp2.specs.Commands.{redis_command_of}
 use Rattle.resp2.specs.Framing.Frame.{Frame}
 use Rattle.client_commands.specs.Refusals.{no_auth}
 use Rattle.client_commands.proofs.Silence.{command_asks, asked_is}
-use Rattle.client_commands.specs.Courtesies.{ClientInfo, Answer, Looked, left, said, asks_nothing, reply_to, courtesy, asker_after, unless_stranger, or_left, or_same, or_protocol, or_admitted, or_killed, is_stranger, is_refused, is_miscounted, looked_up_in, words_of}
+use Rattle.client_commands.specs.Courtesies.{ClientInfo, Answer, Looked, left, said, asks_nothing, courtesy, asker_after, unless_stranger, or_left, or_same, or_protocol, or_admitted, or_killed, is_stranger, is_refused, is_miscounted, looked_up_in, words_of}
 
 -- what is left over of a value that was judged so
 abbrev over : ClientInfo → Result Command CommandFault → Frame → Option Looked

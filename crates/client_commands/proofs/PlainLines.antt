@@ -3,7 +3,7 @@ use Rattle.std.proofs.Common.{◌≡◌, ◌&&◌, List, [], ◌∷◌, ℕ, map
 use Rattle.std.specs.List.{list_all}
 use Rattle.std.proofs.lemmas.Bool.{and_parts}
 use Rattle.resp2.proofs.PlainLines.{is_plain_byte, checked}
-use Rattle.resp2.specs.Framing.Frame.{Frame, FrameList, simple, fault, int, bulk, null_bulk, items, null_items, no_frames, frame, frames_of, IsLine, HasLines, HaveLines}
+use Rattle.resp2.specs.Framing.Frame.{Frame, FrameList, simple, fault, int, bulk, null_bulk, items, null_items, no_frames, frame, frames_of, HasLines, HaveLines}
 
 pub told_have_lines : (lines : List (List ℕ)) → list_all (λ (line : List ℕ). list_all is_plain_byte line) lines ≡ true → HaveLines (frames_of (map simple lines))
 told_have_lines [] h = tt

@@ -1,5 +1,5 @@
 -- An array without items.
-use Rattle.std.proofs.Common.{◌≡◌, eqb, List, [], ◌∷◌, length, arith, Bool, true, false, Option, None, Ok, Err, refl, sym, ap, true≢false}
+use Rattle.std.proofs.Common.{◌≡◌, eqb, List, [], ◌∷◌, length, arith, Bool, true, false, Option, None, Ok, refl, sym, ap, true≢false}
 use Rattle.std.proofs.lemmas.Bool.{ne_eqb}
 use Rattle.ballot_law.specs.declared.commands.Command.{Command}
 use Rattle.ballot_law.specs.Rosters.{Roster}

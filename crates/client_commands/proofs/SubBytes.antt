@@ -2,7 +2,7 @@
 use Rattle.std.proofs.Common.{◌≡◌, ◌∙◌, ◌-◌, take, drop, get_or, ℕ, zero, suc, List, [], ◌∷◌, ◌++◌, ◌*◌, ◌≤◌, length, map, arith, decimal, refl, sym, ap, Bool, true, false, true≢false, Option, None, Some}
 use Rattle.std.proofs.lemmas.List.{take_all}
 use Rattle.ballot_law.specs.Rosters.{MasterPlan}
-use Rattle.resp2.specs.Framing.Frame.{Frame, bulk, items, count, frames_of, spelling, spellings, line_end}
+use Rattle.resp2.specs.Framing.Frame.{bulk, items, count, frames_of, spelling, spellings, line_end}
 use Rattle.client_commands.specs.Choosing.{Wanted, Chosen, fits, unfit, anyone, chosen_by, with_option, with_options, is_fit, wanted_after, chosen_wanted, unfit_text}
 use Rattle.client_commands.specs.Courtesies.{ClientInfo, uncached, cached, doomed, kill_answer}
 

@@ -1,5 +1,5 @@
 -- A subcommand's word is what its name has after the command's own.
-use Rattle.std.proofs.Common.{◌≡◌, ◌≤◌, ℕ, List, ◌++◌, drop, length, codes, refl, sym, ◌∙◌, ap, subst, arith}
+use Rattle.std.proofs.Common.{◌≡◌, ◌≤◌, ℕ, List, ◌++◌, drop, length, codes, sym, ◌∙◌, ap, subst, arith}
 use Rattle.client_commands.specs.declared.subcommands.Sub.{Sub}
 use Rattle.client_commands.specs.Subcommands.{sub_word, sub_name}
 

@@ -1,10 +1,10 @@
 -- The bytes of what COMMAND and its subcommands answer.
-use Rattle.std.proofs.Common.{◌≡◌, ◌≢◌, ◌∙◌, ◌+◌, ◌*◌, ◌≤◌, ◌||◌, ℕ, zero, suc, ℤ, pos, Bool, List, [], ◌∷◌, ◌++◌, length, map, decimal, refl, sym, ap, arith, append_assoc, append-nil, codes}
+use Rattle.std.proofs.Common.{◌≡◌, ◌≢◌, ◌∙◌, ◌+◌, ◌*◌, ◌≤◌, ◌||◌, ℕ, zero, suc, pos, Bool, List, [], ◌∷◌, ◌++◌, length, map, decimal, refl, sym, ap, arith, append_assoc, append-nil, codes}
 use Rattle.std.specs.List.{list_any}
 use Rattle.resp2.specs.Framing.Frame.{Frame, FrameList, simple, fault, int, bulk, null_bulk, items, null_items, no_frames, frame, frames_of, count, line_end, spelling, spellings}
 use Rattle.client_commands.specs.declared.rows.KnownCommand.{KnownCommand}
 use Rattle.client_commands.specs.declared.classes.Class.{Class}
-use Rattle.client_commands.specs.Pieces.{Part, text, mark, other, parts_of, all_parts_of, bytes_of, all_bytes_of}
+use Rattle.client_commands.specs.Pieces.{Part, text, mark, parts_of, all_parts_of, bytes_of, all_bytes_of}
 use Rattle.client_commands.specs.Refusals.{syntax_error}
 use Rattle.client_commands.specs.Rows.{name, arity, class_of, flags, categories, tips}
 use Rattle.client_commands.specs.Descriptions.{fields, pairs_of}

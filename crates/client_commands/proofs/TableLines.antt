@@ -1,9 +1,9 @@
 -- No line of what COMMAND answers holds a CR or LF.
-use Rattle.std.proofs.Common.{◌≡◌, Bool, true, false, List, [], ◌∷◌, ◌++◌, ℕ, map, Option, None, Some, refl}
+use Rattle.std.proofs.Common.{◌≡◌, Bool, true, false, List, [], ◌∷◌, ◌++◌, ℕ, Option, None, Some, refl}
 use Rattle.std.specs.Prelude.{codes}
 use Rattle.std.specs.List.{list_all}
 use Rattle.ballot_law.specs.Words.{lower}
-use Rattle.resp2.specs.Framing.Frame.{Frame, FrameList, simple, bulk, items, no_frames, frame, frames_of, HasLines, HaveLines}
+use Rattle.resp2.specs.Framing.Frame.{Frame, FrameList, no_frames, HasLines, HaveLines}
 use Rattle.client_commands.specs.declared.rows.KnownCommand.{KnownCommand}
 use Rattle.client_commands.specs.declared.rows.KnownCommand.TheVariants.{Ping, Hello, Auth, Client, Command, Role, Publish, Info, Sentinel, Subscribe, Unsubscribe, PSubscribe, PUnsubscribe, ClientSetName, ClientGetName, ClientId, ClientList, ClientInfo, ClientKill, ClientNoEvict, ClientReply, ClientHelp, CommandCount, CommandDocs, CommandInfo, CommandList, CommandHelp, SentinelMasters, SentinelMaster, SentinelReplicas, SentinelSlaves, SentinelSentinels, SentinelMyId, SentinelCkQuorum, SentinelFailover, SentinelFlushConfig, SentinelGetMasterAddr, SentinelIsMasterDown, SentinelHelp, SentinelPendingScripts, SentinelInfoCache, SentinelConfig}
 use Rattle.client_commands.specs.declared.classes.Class.{Class}
@@ -11,7 +11,7 @@ use Rattle.client_commands.specs.declared.classes.Class.TheVariants.{Probe, Gree
 use Rattle.client_commands.specs.Refusals.{is_called, syntax_error}
 use Rattle.client_commands.specs.Rows.{families, all_commands, subs_of, class_of, flags, categories, tips}
 use Rattle.client_commands.specs.Descriptions.{fields, pairs_of}
-use Rattle.client_commands.specs.Tables.{named, row_with, sub_rows, row, all_rows, table, row_or_null, rows_named, command_info, description, sub_descriptions, family_description, described_with, described, found_by, command_docs, names_of, in_category, matching, filtered_by, command_list}
+use Rattle.client_commands.specs.Tables.{named, row_with, sub_rows, all_rows, table, row_or_null, rows_named, command_info, description, sub_descriptions, described_with, described, found_by, command_docs, names_of, in_category, matching, filtered_by, command_list}
 use Rattle.resp2.proofs.PlainLines.{is_plain_byte, checked}
 use Rattle.client_commands.proofs.PlainLines.{told_have_lines, names_lines, have_plain_lines, values_checked}
 

@@ -1,8 +1,7 @@
 -- What a port answers to the values that a Sentinel's rules call unknown, or refuse for their number of words.
-use Rattle.std.specs.Prelude.{ℕ, zero, suc, pos, Bool, true, false, not, ◌||◌, ◌&&◌, ◌==◌, nat_lt, nat_le, List, [], ◌∷◌, ◌++◌, map, length, bytes_eq, codes, decimal, Option, Some, None, Result, Ok, Err}
+use Rattle.std.specs.Prelude.{ℕ, zero, suc, pos, Bool, true, false, not, ◌||◌, ◌&&◌, ◌==◌, nat_lt, nat_le, List, [], ◌∷◌, ◌++◌, map, length, bytes_eq, codes, decimal, Option, Some, None, Result, Err}
 use Rattle.std.specs.List.{list_all, list_any}
 use Rattle.ballot_law.specs.declared.commands.Command.{Command}
-use Rattle.ballot_law.specs.declared.commands.Command.TheVariants.{Masters, Master, Replicas, Sentinels, CkQuorum}
 use Rattle.ballot_law.specs.Rosters.{MasterPlan, Roster}
 use Rattle.ballot_law.specs.Words.{lower, canonical_within, ip_text}
 use Rattle.pubsub.specs.Answering.{wrong_arguments}

@@ -1,6 +1,6 @@
 -- An answer as its parts, one after the other: how a table of the program holds it.
 use Rattle.std.specs.Prelude.{ℕ, List, [], ◌∷◌, ◌++◌, codes, decimal}
-use Rattle.resp2.specs.Framing.Frame.{Frame, FrameList, simple, fault, int, bulk, null_bulk, items, null_items, no_frames, frame, count, line_end, spelling}
+use Rattle.resp2.specs.Framing.Frame.{Frame, FrameList, simple, bulk, items, no_frames, frame, count, line_end, spelling}
 use Rattle.client_commands.specs.declared.pieces.TablePiece.{TablePiece}
 use Rattle.client_commands.specs.declared.pieces.TablePiece.TheVariants.{Text, Mark, Field, Change, Many, Argument}
 

@@ -1,7 +1,7 @@
 -- A slab whose value at a key changes.
-use Rattle.std.proofs.Common.{◌≡◌, ◌≢◌, ◌∙◌, ℕ, ◌+◌, ◌≤◌, ◌<◌, Option, Some, None, is_some, cond, length, subst, sym, ap, arith}
+use Rattle.std.proofs.Common.{◌≡◌, ◌≢◌, ◌∙◌, ℕ, ◌≤◌, ◌<◌, Option, Some, None, is_some, cond, length, ap, arith}
 use Rattle.std.proofs.lemmas.List.Sums.{sum_by-set}
-use Rattle.slab.specs.Slab.{Slab, get, ContainsKey, with_value, slab_len, Updates}
+use Rattle.slab.specs.Slab.{Slab, get, ContainsKey, with_value, slab_len}
 use Rattle.slab.proofs.SlabLemmas.{ContainsKey-within, Updates-with_value}
 
 module _ {T : Type 0} where
@@ -23,12 +23,7 @@ module _ {T : Type 0} where
       let present : ContainsKey s key = grind (arith, found) in
       (Updates-with_value s key after present).others other differs
 
-  -- also where the value is removed after that
-  pub others_left : (s left : Slab T) (key : ℕ) (before after : T) (other : ℕ) → get s key ≡ Some before → Updates (with_value s key after) left key None → other ≢ key →
-      get left other ≡ get s other
-  others_left s left key before after other found removed differs = removed.others other differs ∙ others_kept s key before after other found differs
-
-  -- also where it is closed, or looked at once more, after that
+  -- also where it is closed, or looked at once more, after the write
   pub others_closed : (s left : Slab T) (key : ℕ) (before after : T) (other : ℕ) → get s key ≡ Some before →
       ((it : ℕ) → it ≢ key → get left it ≡ get (with_value s key after) it) → other ≢ key → get left other ≡ get s other
   others_closed s left key before after other found same differs = same other differs ∙ others_kept s key before after other found differs

@@ -1,5 +1,5 @@
 -- What is read and sent by one call after the other, where the bytes may be unknown.
-use Rattle.std.proofs.Common.{◌≡◌, ℕ, List, [], ◌++◌, take, drop, Option, None, Some, append_assoc, sym, refl, ◌∙◌, ap}
+use Rattle.std.proofs.Common.{ℕ, List, [], ◌++◌, take, drop, Option, None, Some, append_assoc, sym, refl, ◌∙◌, ap}
 use Rattle.std.specs.Io.KnownBytes.{Consumes, Appends, Keeps}
 use Rattle.std.proofs.lemmas.List.{append-nil, take-append-drop}
 use Rattle.client_port.specs.Sending.{IsSent}

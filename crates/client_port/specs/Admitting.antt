@@ -4,7 +4,7 @@
 -- own ip while one of these is free, and else on one that is for anybody. It is *refused* where it comes from another machine and those of this machine alone are let in, and where
 -- all seats that are for anybody are taken and nobody has to go. *Has to go* who has a seat that is for anybody: first who owes the port's password for long, and then the one that has
 -- been silent for longest, which listens to nothing and has nothing to do.
-use Rattle.std.specs.Prelude.{◌+◌, ◌-◌, ◌*◌, ◌/◌, ℕ, Bool, true, false, not, ◌&&◌, nat_le, nat_lt, if◌then◌else◌, min, max, List, [], ◌∷◌, Option, None, Some}
+use Rattle.std.specs.Prelude.{◌-◌, ◌*◌, ℕ, Bool, true, false, not, ◌&&◌, nat_le, nat_lt, List, [], ◌∷◌, Option, None, Some}
 use Rattle.courteous_sessions.specs.Clients.{wanting_password}
 use Rattle.courteous_sessions.specs.declared.client_session.ClientSession.{ClientSession}
 use Rattle.client_port.specs.declared.admission.Admitted.{Admitted}

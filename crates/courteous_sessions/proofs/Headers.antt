@@ -1,5 +1,5 @@
 -- Headers that begin the same bytes tell the same number.
-use Rattle.std.proofs.Common.{◌≡◌, ◌∙◌, ◌%◌, ◌/◌, ◌<◌, ◌^◌, ℕ, suc, Bool, true, false, true≢false, eqb, List, [], ◌∷◌, ◌++◌, sym, ap, append_assoc, decimal, arith}
+use Rattle.std.proofs.Common.{◌≡◌, ◌∙◌, ◌%◌, ◌/◌, ◌<◌, ◌^◌, ℕ, suc, false, true≢false, eqb, List, [], ◌∷◌, ◌++◌, sym, ap, append_assoc, decimal, arith}
 use Rattle.std.proofs.lemmas.Bool.{eq-eqb}
 use Rattle.std.proofs.lemmas.Fmt.{decimal_injective}
 use Rattle.resp2.specs.Framing.Frame.{simple, line_end}

@@ -1,5 +1,5 @@
 -- What a session with courtesies keeps of the one without.
-use Rattle.std.proofs.Common.{◌≡◌, ◌≢◌, ◌∙◌, ◌⊎◌, inl, inr, ℕ, Bool, true, false, ◌||◌, List, Option, None, refl, ap, sym, subst, Ok, Err, Result, true≢false}
+use Rattle.std.proofs.Common.{◌≡◌, ◌≢◌, ◌∙◌, ℕ, Bool, true, false, ◌||◌, List, None, refl, ap, sym, subst, Ok, Result, true≢false}
 use Rattle.std.specs.Prelude.{bytes_eq}
 use Rattle.std.specs.List.{list_any}
 use Rattle.ballot_law.specs.Rosters.{master_at}
@@ -12,13 +12,12 @@ use Rattle.pubsub.proofs.Sounding.{untold}
 use Rattle.port_sessions.specs.Listening.{note_text}
 use Rattle.ballot_law.specs.declared.commands.Command.{Command}
 use Rattle.ballot_law.specs.declared.commands.Command.TheVariants.{Ping, IsMasterDownByAddr, GetMasterAddrByName, Masters, Master, Replicas, Sentinels, MyId, CkQuorum, Failover, FlushConfig, Subscribe, Info}
-use Rattle.client_commands.specs.Courtesies.{is_stranger, ClientInfo, Answer, left, said, asks_info, silent, asks_nothing, courtesy, kind_of}
+use Rattle.client_commands.specs.Courtesies.{is_stranger, ClientInfo, Answer, left, said, asks_info, silent, courtesy, kind_of}
 use Rattle.client_commands.specs.declared.courtesies.Courtesy.TheVariants.{Said}
 use Rattle.client_commands.proofs.Strangers.{strangers_are_answered}
 use Rattle.client_commands.proofs.OwnValues.{own_is_left, own_is_same}
 use Rattle.port_sessions.specs.Talks.{Party, party, Responds}
 use Rattle.resp2.specs.declared.command.CommandFault.{CommandFault}
-use Rattle.resp2.specs.declared.command.CommandFault.TheVariants.{UnknownCommand, WrongArguments}
 use Rattle.resp2.specs.Asked.{IsCommon}
 use Rattle.resp2.specs.Commands.{command_of, redis_command_of}
 use Rattle.resp2.proofs.Switches.{known_too}

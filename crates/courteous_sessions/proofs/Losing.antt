@@ -1,5 +1,5 @@
 -- What the seat has seen where an answer had no room.
-use Rattle.std.proofs.Common.{◌≡◌, ◌⊎◌, ◌∙◌, ℕ, Bool, true, false, List, Option, Some, None, Result, Ok, Err, refl, sym, ap, subst, inl, inr}
+use Rattle.std.proofs.Common.{◌≡◌, ◌⊎◌, ℕ, Bool, true, false, List, Option, Some, None, Result, Ok, Err, refl, sym, ap, subst, inl, inr}
 use Rattle.std.specs.Prelude.{OnErr, IfErr}
 use Rattle.ballot_law.specs.declared.commands.Command.{Command}
 use Rattle.ballot_law.specs.declared.commands.Command.TheVariants.{Info, Subscribe}
@@ -18,7 +18,7 @@ use Rattle.sentinel_cell.specs.Histories.{World}
 use Rattle.sentinel_rules.specs.Plans.{roster_of}
 use Rattle.courteous_sessions.specs.Epochs.{heard_as}
 use Rattle.courteous_sessions.specs.Visits.{Guest, hears_switches, channel_turn, Tunes, Answers, ServesBy, ServesBesideBy, ServesIn, FailsAt, IsUnanswered}
-use Rattle.courteous_sessions.proofs.Values.{unput_at, by_own, by_info, by_subscribe, unasked}
+use Rattle.courteous_sessions.proofs.Values.{by_own, by_info, by_subscribe, unasked}
 
 module _ (start : World) (now : ℕ) where
   -- nothing was asked of the seat

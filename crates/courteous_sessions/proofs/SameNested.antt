@@ -1,11 +1,11 @@
 -- Both protocols say the same of what COMMAND answers.
-use Rattle.std.proofs.Common.{◌≡◌, ◌⊎◌, inl, inr, ◌∙◌, ◌+◌, ◌%◌, ◌/◌, ◌==◌, ◌||◌, ◌&&◌, ◌<◌, ◌^◌, ℕ, suc, Bool, true, false, true≢false, eqb, List, [], ◌∷◌, ◌++◌, refl, sym, ap, subst, append_assoc, decimal, drop, arith}
+use Rattle.std.proofs.Common.{◌≡◌, ◌⊎◌, inl, inr, ◌∙◌, ◌+◌, ◌%◌, ◌/◌, ◌==◌, ◌||◌, ◌<◌, ◌^◌, ℕ, suc, Bool, true, false, eqb, List, [], ◌∷◌, ◌++◌, refl, sym, ap, subst, append_assoc, decimal, drop, arith}
 use Rattle.std.proofs.lemmas.Bool.{eqb-true}
 use Rattle.resp2.specs.Framing.Frame.{Frame, FrameList, simple, fault, int, bulk, null_bulk, items, null_items, no_frames, frame, count, line_end, spelling, IsPlain, ArePlain}
 use Rattle.resp2.proofs.FramingLemmas.Streams.{one_spelling}
 use Rattle.courteous_sessions.specs.declared.nested.Manner.{Manner}
 use Rattle.courteous_sessions.specs.declared.nested.Manner.TheVariants.{AsTwo, InRows, InDocs}
-use Rattle.courteous_sessions.specs.Nested.{is_odd, is_text, is_list, begins_with_number, is_one_text, is_change, kind_in_rows, kind_after_text, kind_begun, kind_in_docs, kind_in, number_of, spelling_in, spellings_in, rows_spelling}
+use Rattle.courteous_sessions.specs.Nested.{is_odd, is_list, begins_with_number, is_one_text, is_change, kind_in_rows, kind_begun, kind_in_docs, kind_in, number_of, spelling_in, spellings_in, rows_spelling}
 use Rattle.courteous_sessions.specs.Retelling.{with_one_null, each_with_one_null}
 use Rattle.courteous_sessions.proofs.Headers.{header_split, one_more, none_or_more, lead, apart, halves, half_below}
 

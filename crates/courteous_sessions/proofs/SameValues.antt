@@ -1,11 +1,8 @@
 -- Both protocols say the same.
-use Rattle.std.proofs.Common.{◌≡◌, ◌||◌, inl, inr, ◌∙◌, ◌+◌, ◌%◌, ◌/◌, ◌<◌, ◌^◌, ℕ, suc, Bool, true, false, true≢false, eqb, List, [], ◌∷◌, ◌++◌, refl, sym, ap, subst, append_assoc, length, decimal, drop, arith}
+use Rattle.std.proofs.Common.{◌≡◌, ◌||◌, inl, inr, ◌∙◌, ◌+◌, ◌/◌, ◌<◌, ◌^◌, ℕ, suc, Bool, true, false, List, [], ◌∷◌, ◌++◌, refl, sym, ap, subst, append_assoc, length, decimal, drop, arith}
 use Rattle.std.specs.Prelude.{bytes_eq, codes}
-use Rattle.std.proofs.lemmas.Bool.{eq-eqb}
 use Rattle.std.proofs.lemmas.Slice.Eq.{bytes_eq-Decides}
-use Rattle.std.proofs.lemmas.Fmt.{decimal_injective}
 use Rattle.resp2.specs.Framing.Frame.{Frame, FrameList, simple, fault, int, bulk, null_bulk, items, null_items, no_frames, frame, count, line_end, spelling, spellings, IsPlain, ArePlain}
-use Rattle.resp2.proofs.FramingLemmas.Numbers.{decimal_line}
 use Rattle.resp2.proofs.FramingLemmas.Streams.{one_spelling}
 use Rattle.courteous_sessions.proofs.Headers.{header_split, one_more, none_or_more, lead, apart, halves, half_below}
 use Rattle.courteous_sessions.proofs.SameNested.{same_rows, same_docs}

@@ -1,7 +1,6 @@
 -- One value more, and the ends of a piece.
 use Rattle.std.proofs.Common.{◌≡◌, ◌≢◌, ◌⊎◌, ℕ, Bool, true, false, List, [], ◌∷◌, ◌++◌, Option, Some, None, Result, Ok, Err, refl, sym, ap, ◌∙◌, subst, inl, inr, append_assoc, append-nil, true≢false}
 use Rattle.std.specs.Option.{is_some}
-use Rattle.std.specs.Prelude.{is_err}
 use Rattle.ballot_law.specs.declared.commands.Command.{Command}
 use Rattle.ballot_law.specs.declared.commands.Command.TheVariants.{Ping, IsMasterDownByAddr, GetMasterAddrByName, Masters, Master, Replicas, Sentinels, MyId, CkQuorum, Failover, FlushConfig, Subscribe, Info}
 use Rattle.pubsub.specs.declared.answers.Turn.TheVariants.{Other as Untouched}
@@ -27,7 +26,7 @@ use Rattle.resp2.specs.declared.framing.fault.FrameFault.{FrameFault}
 use Rattle.resp2.specs.declared.framing.fault.FrameFault.TheVariants.{BadKind, BadLength, BadNumber, MissingEnd, TooLong, TooDeep, TooMany, NoMemory}
 use Rattle.resp2.specs.declared.framing.fault.Unread.TheVariants.{Faulty}
 use Rattle.resp2.specs.Framing.Frame.{Frame}
-use Rattle.resp2.specs.Framing.Stream.{Held, reading, ended, bytes_in, Feeds}
+use Rattle.resp2.specs.Framing.Stream.{Held, reading, ended, bytes_in}
 use Rattle.sentinel_cell.specs.declared.view.View.{View}
 use Rattle.sentinel_cell.specs.Histories.{World}
 use Rattle.sentinel_rules.specs.Plans.{roster_of}

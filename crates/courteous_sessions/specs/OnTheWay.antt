@@ -1,5 +1,5 @@
 -- What is true within a call that takes a piece.
-use Rattle.std.specs.Prelude.{◌≡◌, ◌≢◌, ◌⊎◌, ℕ, Bool, true, false, Option, None, Some, List, [], ◌++◌, Result, Ok, Err, slice_set}
+use Rattle.std.specs.Prelude.{◌≡◌, ℕ, Bool, true, false, Option, None, Some, List, [], ◌++◌, Result, Ok, Err, slice_set}
 use Rattle.std.specs.Option.{is_some}
 use Rattle.ballot_law.specs.declared.commands.Command.{Command}
 use Rattle.ballot_law.specs.declared.messages.Note.{Note}
@@ -12,14 +12,10 @@ use Rattle.client_commands.specs.declared.protocols.Protocol.TheVariants.{Two}
 use Rattle.client_commands.specs.Courtesies.{ClientInfo, Answer, is_stranger}
 use Rattle.client_commands.specs.Lines.{Reads}
 use Rattle.sentinel_core.specs.declared.serving.fault.ServeFault.{ServeFault}
-use Rattle.sentinel_core.specs.declared.serving.fault.ServeFault.TheVariants.{Frame as FaultyFrame, NoMemory as OutOfMemory}
-use Rattle.sentinel_core.specs.Serving.Serving.{last_line}
 use Rattle.port_sessions.specs.declared.hearing.NotesHeard.{NotesHeard}
 use Rattle.port_sessions.specs.Notes.{is_news}
 use Rattle.port_sessions.specs.Talks.{Party, party, Responds}
 use Rattle.resp2.specs.declared.command.CommandFault.{CommandFault}
-use Rattle.resp2.specs.declared.framing.fault.FrameFault.{FrameFault}
-use Rattle.resp2.specs.declared.framing.fault.FrameFault.TheVariants.{NoMemory}
 use Rattle.resp2.specs.Framing.Frame.{Frame, spellings}
 use Rattle.resp2.specs.Framing.Reading.{frame_at}
 use Rattle.resp2.specs.Framing.Stream.{Held, reading, bytes_in}

@@ -1,5 +1,5 @@
 -- What a client is answered whose session has courtesies, and how its session ends.
-use Rattle.std.specs.Prelude.{◌≡◌, ◌⊎◌, ◌++◌, ◌∷◌, ℕ, Bool, true, false, Option, None, Some, List, [], Result, Ok, Err}
+use Rattle.std.specs.Prelude.{◌≡◌, ◌⊎◌, ◌++◌, ◌∷◌, ℕ, Bool, true, false, Option, None, List, [], Result, Ok, Err}
 use Rattle.ballot_law.specs.declared.commands.Command.{Command}
 use Rattle.ballot_law.specs.declared.commands.Command.TheVariants.{Info, Subscribe}
 use Rattle.pubsub.specs.declared.channel.Channel.TheVariants.{SwitchMaster}

@@ -1,5 +1,5 @@
 -- What a data node that shows an INFO answers.
-use Rattle.std.specs.Prelude.{◌≡◌, ℕ, Bool, true, false, ◌&&◌, List, [], ◌∷◌, ◌++◌, Option, Some, None, codes, decimal, if◌then◌else◌}
+use Rattle.std.specs.Prelude.{ℕ, Bool, true, false, ◌&&◌, List, [], ◌∷◌, ◌++◌, Option, Some, None, codes, decimal, if◌then◌else◌}
 use Rattle.ballot_law.specs.declared.addresses.Addr.{Addr}
 use Rattle.ballot_law.specs.declared.addresses.RunId.{RunId}
 use Rattle.ballot_law.specs.declared.replies.Info.{Info}
@@ -9,7 +9,7 @@ use Rattle.ballot_law.specs.Orders.{same_addr}
 use Rattle.ballot_law.specs.Words.{id_text}
 use Rattle.node_texts.specs.Infos.{info_text}
 use Rattle.node_texts.specs.Roles.{role_frame}
-use Rattle.resp2.specs.Framing.Frame.{Frame, simple, fault, bulk, spelling, line_end}
+use Rattle.resp2.specs.Framing.Frame.{simple, fault, bulk, spelling, line_end}
 use Rattle.data_node_port.specs.declared.asks.Ask.{Ask}
 use Rattle.data_node_port.specs.declared.asks.Ask.TheVariants as asks
 use Rattle.data_node_port.specs.declared.asks.Refusal.{Refusal}

@@ -1,7 +1,5 @@
 -- What the words of a command ask of a data node.
-use Rattle.std.specs.Prelude.{◌≡◌, ℕ, Bool, true, false, ◌&&◌, ◌||◌, List, [], ◌∷◌, Option, Some, None, codes, if◌then◌else◌}
-use Rattle.ballot_law.specs.declared.addresses.Addr.{Addr}
-use Rattle.ballot_law.specs.Hellos.{IsAddr}
+use Rattle.std.specs.Prelude.{ℕ, Bool, true, false, ◌&&◌, ◌||◌, List, [], ◌∷◌, Option, Some, None, codes, if◌then◌else◌}
 use Rattle.ballot_law.specs.Words as words
 use Rattle.resp2.specs.Commands as commands
 use Rattle.data_node_port.specs.declared.asks.Ask.{Ask}

@@ -1,5 +1,5 @@
 -- The command at the front of the bytes of a client: an array of bulk strings, or a line of words.
-use Rattle.std.specs.Prelude.{◌≡◌, ℕ, suc, ◌+◌, ◌-◌, Bool, true, false, ◌&&◌, ◌||◌, ◌==◌, nat_lt, List, [], ◌∷◌, ◌++◌, length, take, drop, Option, Some, None, option_map, Result, Ok, Err, if◌then◌else◌}
+use Rattle.std.specs.Prelude.{ℕ, suc, ◌+◌, Bool, true, false, ◌&&◌, ◌||◌, ◌==◌, nat_lt, List, [], ◌∷◌, ◌++◌, length, take, drop, Option, Some, None, Result, Ok, Err}
 use Rattle.ballot_law.specs.Words.{some_if}
 use Rattle.resp2.specs.Commands as commands
 use Rattle.resp2.specs.declared.framing.fault.Unread.{Unread}

@@ -11,7 +11,7 @@ use Rattle.ballot_law.specs.declared.messages.NodeName.TheVariants.{SentinelAt, 
 use Rattle.ballot_law.specs.declared.steps.Step.TheVariants as step
 use Rattle.ballot_law.specs.Rosters.{Roster, size}
 use Rattle.ballot_law.specs.Ballots.{card_of}
-use Rattle.ballot_law.specs.Worlds.{World, Sentinel, State, Ready, Pending, Stored, Halted, Stopped, sentinel_at, stores_of, card_after, Steps, Answers}
+use Rattle.ballot_law.specs.Worlds.{World, Sentinel, State, Ready, Pending, Stored, Halted, Stopped, sentinel_at, Steps}
 use Rattle.boxed_nodes.specs.Images.{Image, OfSentinel, HasStored, image_at, is_stopped, last_stored, card_shown}
 use Rattle.boxed_nodes.specs.Moves.{Shows, ShowsCard}
 use Rattle.fault_world.specs.Standing.{IsShown}

@@ -1,17 +1,13 @@
 -- The turns and the ends of the loops that look at nodes.
-use Rattle.std.proofs.Common.{inl, inr, ◌≡◌, ◌≢◌, ℕ, ◌<◌, ◌≤◌, ◌+◌, Option, List, [], ◌∷◌, ◌++◌, length, slice_get, get_or, map, take, refl, sym, ◌∙◌, ap, subst, arith}
+use Rattle.std.proofs.Common.{inl, inr, ◌≡◌, ◌≢◌, ℕ, ◌<◌, ◌≤◌, ◌+◌, Option, List, [], ◌∷◌, ◌++◌, length, slice_get, get_or, map, sym, ◌∙◌, ap, subst, arith}
 use Rattle.std.specs.Prelude.{All}
-use Rattle.std.specs.List.{sum_by}
 use Rattle.std.proofs.lemmas.Bool.{cases_eq, cases_order}
-use Rattle.std.proofs.lemmas.List.{take_all, get_or_default, map-append, append_assoc}
+use Rattle.std.proofs.lemmas.List.{map-append, append_assoc}
 use Rattle.std.proofs.lemmas.List.Elements.{All-push, All-head, All-tail}
-use Rattle.std.proofs.lemmas.List.Sums.{sum_by_more}
 use Rattle.std.proofs.lemmas.Option.{same_Some, slice_get_within}
 use Rattle.ballot_law.specs.declared.cards.Card.{Card}
 use Rattle.ballot_law.specs.declared.messages.NodeName.{NodeName}
-use Rattle.ballot_law.specs.declared.rosters.TheConstants.{NODES_MAX}
-use Rattle.ballot_law.specs.Rosters.{Roster, MasterPlan, no_master}
-use Rattle.ballot_law.specs.RosterFaults.{IsRoster}
+use Rattle.ballot_law.specs.Rosters.{Roster}
 use Rattle.boxed_nodes.specs.Images.{Image, card_shown}
 use Rattle.boxed_nodes.specs.Moves.{Shows, ShowsKind, ShowsCard, IsFresh}
 use Rattle.fault_world.specs.Groups.{IsPlaced, HasNamed, IsFirstNamed, AreApart, HasAllBelow, IsSentinelName, HaveSameCards, IsAlike, IsMatched, BeginAlike}

@@ -18,7 +18,7 @@ use Rattle.ballot_law.specs.Rosters.{Roster}
 use Rattle.ballot_law.specs.Messages.{sent, Delivers, IsFor}
 use Rattle.ballot_law.specs.Worlds.{World, Ready, IsNode, IsFree, Steps}
 use Rattle.boxed_nodes.specs.declared.calls.HowStored.TheVariants as how
-use Rattle.boxed_nodes.specs.Images.{Image, OfSentinel, OfOther, IsOfKind, image_at, state_of, held_of, how_left, after_store, store_answer, stored_image, refused_image, released_image, stopped_image, started_image, wins_of, has_text, refusal}
+use Rattle.boxed_nodes.specs.Images.{Image, OfSentinel, OfOther, IsOfKind, image_at, state_of, held_of, how_left, after_store, stored_image, refused_image, released_image, stopped_image, started_image, wins_of, has_text, refusal}
 use Rattle.boxed_nodes.specs.Moves.{Stops, wins_told}
 use Rattle.boxed_nodes.specs.Sendable.{IsSendable, IsSendableOutput}
 use Rattle.fault_world.specs.Standing.{IsShown}

@@ -1,12 +1,10 @@
 -- What is known of the nodes that a loop has passed.
-use Rattle.std.proofs.Common.{inl, inr, ◌≡◌, ◌≢◌, ℕ, ◌<◌, ◌≤◌, ◌+◌, Some, List, length, slice_get, get_or, map, take, ◌++◌, ◌*◌, refl, sym, ◌∙◌, ap, subst, arith}
+use Rattle.std.proofs.Common.{inl, inr, ◌≡◌, ◌≢◌, ℕ, ◌<◌, ◌≤◌, ◌+◌, Some, List, length, slice_get, get_or, map, ◌++◌, refl, sym, ◌∙◌, ap, subst, arith}
 use Rattle.std.specs.Prelude.{All}
-use Rattle.std.specs.List.{sum_by}
 use Rattle.std.proofs.lemmas.Bool.{cases_eq}
 use Rattle.std.proofs.lemmas.Option.{same_Some, slice_get_within, slice_get_read, slice_get-get_or, get_or_from_slice_get}
 use Rattle.ballot_law.specs.declared.messages.NodeName.{NodeName}
-use Rattle.ballot_law.specs.declared.rosters.TheConstants.{NODES_MAX}
-use Rattle.ballot_law.specs.Rosters.{Roster, MasterPlan}
+use Rattle.ballot_law.specs.Rosters.{Roster}
 use Rattle.boxed_nodes.specs.Images.{Image, card_shown}
 use Rattle.boxed_nodes.specs.Moves.{Shows, ShowsKind}
 use Rattle.fault_world.specs.Groups.{IsPlaced, IsFirstNamed, HasAllBelow, IsSentinelName, HaveSameCards, IsMatched}

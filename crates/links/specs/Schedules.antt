@@ -2,7 +2,7 @@
 use Rattle.std.specs.Prelude.{ℕ, ◌≤◌, ◌-◌, ◌*◌, min, max, List, [], ◌∷◌, Option, Some, None}
 use Rattle.links.specs.declared.sessions.questions.Question.{Question}
 use Rattle.links.specs.declared.schedule.Schedule.{Schedule}
-use Rattle.links.specs.declared.schedule.Stage.TheVariants.{Closed, Opening, Open}
+use Rattle.links.specs.declared.schedule.Stage.TheVariants.{Closed, Opening}
 use Rattle.links.specs.declared.times.TheConstants.{PAUSE_MIN_MS, PAUSE_MAX_MS}
 
 -- there is no such time, or it is so long ago

@@ -16,7 +16,7 @@ use Rattle.ballot_law.specs.declared.replies.Info.{Info}
 use Rattle.ballot_law.specs.Hellos.{IsAddr, IsRunId}
 use Rattle.ballot_law.specs.Cuts.{lines}
 use Rattle.ballot_law.specs.Words.{then_some, number, with_first, ip_text, id_text}
-use Rattle.ballot_law.proofs.WordLemmas.{ArePlain, IsWord, spells_decimal, number_within-decimal, ip-ip_text, word_ip_text, word_decimal, port-decimal, run_id-id_text, word_id_text}
+use Rattle.ballot_law.proofs.WordLemmas.{ArePlain, spells_decimal, number_within-decimal, ip-ip_text, word_ip_text, word_decimal, port-decimal, run_id-id_text, word_id_text}
 use Rattle.ballot_law.proofs.CutLemmas.{line_goes_on}
 use Rattle.ballot_law.proofs.HelloLemmas.{plain_word}
 use Rattle.node_texts.specs.declared.info_fields.TheConstants.{COUNT_MAX}

@@ -1,5 +1,5 @@
 -- Reading a hello: its fields around the commas, and what they say.
-use Rattle.std.specs.Prelude.{ℕ, List, [], ◌∷◌, Option, Some, None, Result, Ok, Err}
+use Rattle.std.specs.Prelude.{ℕ, List, [], ◌∷◌, Option, Result, Ok, Err}
 use Rattle.ballot_law.specs.declared.cards.TheConstants.{MAX_EPOCH}
 use Rattle.ballot_law.specs.declared.replies.Hello.{Hello}
 use Rattle.ballot_law.specs.Results.{◌>>=◌, wanted}

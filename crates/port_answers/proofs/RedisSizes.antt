@@ -1,7 +1,6 @@
 -- How long the rows in redis-sentinel's words may be.
-use Rattle.std.proofs.Common.{◌≡◌, ℕ, ◌+◌, ◌*◌, ◌≤◌, ◌<◌, ◌^◌, Bool, true, false, List, [], ◌∷◌, ◌++◌, length, ap, ◌∙◌, arith, length-append, decimal}
+use Rattle.std.proofs.Common.{ℕ, ◌+◌, ◌≤◌, ◌<◌, ◌^◌, Bool, true, false, List, [], ◌∷◌, ◌++◌, length, ap, arith, length-append, decimal}
 use Rattle.std.specs.Prelude.{codes, Option, Some, None}
-use Rattle.std.specs.List.{AllByRecursion}
 use Rattle.ballot_law.specs.declared.addresses.Addr.{Addr}
 use Rattle.ballot_law.specs.declared.addresses.RunId.{RunId}
 use Rattle.ballot_law.specs.declared.replies.DataRole.{DataRole}
@@ -24,7 +23,7 @@ use Rattle.port_answers.specs.RedisRows.{id_words, role_name, stage_name, link_n
 use Rattle.port_answers.specs.Limits.{IsPlace, IsPlaceIfAny, IsContactRow, IsSaidRow, IsLinkRow, IsMasterRow, IsReplicaRow, IsSentinelRow}
 use Rattle.port_answers.proofs.FieldLemmas.{fields_text-append}
 use Rattle.port_answers.proofs.RedisRowLemmas.{one_at_most, master_items, replica_items, sentinel_items}
-use Rattle.port_answers.proofs.Sizes.{port_size, addr_size, master_flags_size, node_flags_size, IsShort, fields_size, short, array_size, two_digits, at_most}
+use Rattle.port_answers.proofs.Sizes.{port_size, addr_size, master_flags_size, node_flags_size, fields_size, short, array_size, two_digits, at_most}
 
 -- ---- words
 

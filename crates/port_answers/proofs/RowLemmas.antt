@@ -1,11 +1,8 @@
 -- Lists of rows that are added one behind the other.
-use Rattle.std.proofs.Common.{◌≡◌, ℕ, suc, List, [], ◌∷◌, ◌++◌, length, map, refl, ap, sym, ◌∙◌, append-nil, decimal}
+use Rattle.std.proofs.Common.{◌≡◌, ℕ, suc, List, [], ◌∷◌, ◌++◌, length, map, refl, ap, ◌∙◌, decimal}
 use Rattle.std.specs.List.{flat_map}
 use Rattle.resp2.specs.Framing.Frame.{Frame, items, frames_of, count, spelling, spellings, line_end}
-use Rattle.ballot_law.specs.declared.messages.TheConstants.{ANSWER_MAX}
-use Rattle.port_answers.specs.Room.{bounded}
 use Rattle.port_answers.specs.Answers.{header}
-use Rattle.bounded_list.proofs.Bounded.{added_both}
 
 pub count_rows : {X : Type 0} (frame_of : X → Frame) (rows : List X) → count (frames_of (map frame_of rows)) ≡ length rows
 count_rows frame_of [] = refl

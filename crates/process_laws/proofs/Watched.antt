@@ -16,7 +16,7 @@ use Rattle.sentinel_rules.specs.Plans.{Plan}
 use Rattle.process_laws.specs.Actions.{Action, Opened, Took, Told, IsPublished, actions_after, all_sent, at_first}
 use Rattle.process_laws.specs.Connected.{Deed, Takes, Tells, Life, history_of, action_of, actions_of, AreLives, IsHeardFrom, MayTake, AreConnected}
 use Rattle.process_laws.specs.OwnActions.{place_of, own_of}
-use Rattle.process_laws.specs.Watched.{Connection, IsToldThere, IsOneOf, IsCarriedThere, AreWatched, WatchedAreConnected, WatchedAreSafe}
+use Rattle.process_laws.specs.Watched.{Connection, IsToldThere, IsOneOf, IsCarriedThere, WatchedAreConnected, WatchedAreSafe}
 use Rattle.process_laws.proofs.Connected.{connected_processes_are_safe}
 
 -- ---- an entry in the order of all is one of a process

@@ -7,9 +7,9 @@ use Rattle.ballot_law.specs.declared.addresses.Addr.{Addr}
 use Rattle.ballot_law.specs.declared.addresses.RunId.{RunId}
 use Rattle.ballot_law.specs.declared.cards.TheConstants.{MAX_EPOCH}
 use Rattle.ballot_law.specs.declared.commands.Command.TheVariants.{IsMasterDownByAddr}
-use Rattle.ballot_law.specs.Hellos.{IsAddr, IsRunId}
+use Rattle.ballot_law.specs.Hellos.{IsAddr}
 use Rattle.ballot_law.specs.Results.{◌>>=◌, wanted}
-use Rattle.ballot_law.specs.Words.{then_some, canonical_within, canonical_address, ip_text, id_text, run_id, hex}
+use Rattle.ballot_law.specs.Words.{then_some, canonical_within, canonical_address, ip_text, id_text, run_id}
 use Rattle.ballot_law.proofs.WordLemmas.{ip-ip_text, run_id-id_text, length-id_text}
 use Rattle.resp2.specs.declared.command.CommandFault.TheVariants.{BadAddress, BadEpoch, BadRunId}
 use Rattle.resp2.specs.Commands.{candidate, candidate_text, ask_frame, command_of, IsCandidate}

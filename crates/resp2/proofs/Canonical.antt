@@ -1,10 +1,8 @@
 -- Numbers without leading zeros, as words and as lines of a stream.
-use Rattle.std.proofs.Common.{◌≡◌, ℕ, ◌-◌, ◌^◌, ◌≤◌, ◌<◌, Bool, List, refl, ap, ◌∙◌, subst, arith, Option, Some, None, decimal}
+use Rattle.std.proofs.Common.{◌≡◌, ℕ, ◌-◌, ◌^◌, ◌≤◌, ◌<◌, Bool, List, ap, ◌∙◌, subst, Option, Some, decimal}
 use Rattle.ballot_law.specs.Orders.{same_bytes}
 use Rattle.ballot_law.specs.Words.{some_if, then_some, number_within, canonical_within}
 use Rattle.ballot_law.proofs.WordLemmas.{same_bytes-refl, same_bytes-true, number_within-decimal, then_some-is, some_if-is, number_within-is}
-use Rattle.resp2.specs.Framing.Reading.{number_of}
-use Rattle.resp2.proofs.FramingLemmas.Numbers.{number_takes, number_again}
 
 -- what a word spells, and its bounds
 pub record Canonical (low high : ℕ) (word : List ℕ) (n : ℕ) : Type 0 where

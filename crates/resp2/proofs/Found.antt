@@ -12,8 +12,7 @@ use Rattle.resp2.specs.Asked.{Found, Asks, IsBehindPing, IsBehindNames}
 use Rattle.resp2.specs.Commands.{Entry, bulks, called_in, commands, subcommands, command_of, is_master_down_by_addr}
 use Rattle.resp2.specs.declared.framing.fault.FrameFault.{FrameFault}
 use Rattle.resp2.specs.declared.framing.fault.FrameFault.TheVariants.{BadKind, BadLength, BadNumber, MissingEnd, TooLong, TooDeep, TooMany, NoMemory}
-use Rattle.resp2.specs.declared.framing.value.Value.{Value}
-use Rattle.resp2.specs.Framing.Frame.{Frame, view, simple, fault, int, bulk, null_bulk, items, null_items, spelling, spellings, line_end, count}
+use Rattle.resp2.specs.Framing.Frame.{view, bulk, null_bulk, items, spelling, spellings, line_end, count}
 use Rattle.resp2.specs.Framing.Reading.{frame_at}
 use Rattle.resp2.specs.Framing.Stream.{Held, reading, ended, bytes_in, held_size, Answers}
 use Rattle.resp2.proofs.FramingLemmas.Streams.{read_is_spelled}

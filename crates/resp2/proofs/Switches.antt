@@ -1,5 +1,5 @@
 -- A command of a port that doesn't know SENTINEL FAILOVER is one of a port that does.
-use Rattle.std.proofs.Common.{◌≡◌, ℕ, ◌≤◌, arith, length, List, [], ◌∷◌, Bool, true, false, Option, None, Some, Result, Ok, Err, refl, sym, ap, ◌∙◌, ◌⊎◌, inl, inr}
+use Rattle.std.proofs.Common.{◌≡◌, ℕ, ◌≤◌, arith, length, List, [], ◌∷◌, Bool, true, false, Option, None, Some, Result, Ok, Err, refl, ap, ◌∙◌, ◌⊎◌, inl, inr}
 use Rattle.std.specs.Prelude.{◌&&◌, bytes_eq, codes, if◌then◌else◌}
 use Rattle.std.proofs.lemmas.Slice.Eq.{bytes_eq-Decides}
 use Rattle.ballot_law.specs.declared.commands.Command.{Command}
@@ -9,7 +9,7 @@ use Rattle.resp2.specs.declared.command.CommandFault.{CommandFault}
 use Rattle.resp2.specs.declared.command.CommandFault.TheVariants.{UnknownCommand, NotACommand}
 use Rattle.resp2.specs.Commands.{are_bulk, words, is_called, is_master_down_by_addr, about_master, alone, subscribe, sentinel_command, command_of_words, command_of, switch_words, redis_command_of_words, redis_command_of}
 use Rattle.resp2.specs.declared.framing.value.Value.{Value}
-use Rattle.resp2.specs.Framing.Frame.{Frame, FrameList, frames_view, simple, fault, int, bulk, null_bulk, items, null_items}
+use Rattle.resp2.specs.Framing.Frame.{Frame, frames_view, simple, fault, int, bulk, null_bulk, items, null_items}
 
 abbrev Asked : Type 0
 Asked = Result Command CommandFault

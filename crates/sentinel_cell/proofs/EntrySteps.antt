@@ -17,7 +17,7 @@ use Rattle.ballot_law.specs.declared.steps.Step.TheVariants.{Take, Deliver, Stor
 use Rattle.ballot_law.specs.Ballots.{card_of}
 use Rattle.ballot_law.specs.Messages.{sent, advertised_by, Delivers, IsFor}
 use Rattle.ballot_law.specs.Rosters.{Roster}
-use Rattle.ballot_law.specs.Worlds.{World as Group, Sentinel, State, Ready, Pending, Stored as IsStored, Halted as IsHalted, Stopped, no_sentinel, sentinel_at, with_sentinel, IsFlush, IsFree, Choice, IsChoice, taken, stored_now, released, ended, ended_new, filed, after_store, after_refused, after_release, said_by, elected_by, IsRightOutput, stores_of, card_after, after_answer, IsAt, OrNothing, Takes, Run, Steps}
+use Rattle.ballot_law.specs.Worlds.{World as Group, Sentinel, State, Ready, Stored as IsStored, Halted as IsHalted, Stopped, no_sentinel, sentinel_at, with_sentinel, IsFlush, IsFree, Choice, IsChoice, taken, stored_now, released, ended, ended_new, filed, after_store, after_refused, after_release, said_by, elected_by, IsRightOutput, stores_of, card_after, IsAt, Takes, Run, Steps}
 use Rattle.sentinel_rules.specs.Plans.{Plan, roster_of}
 use Rattle.ballot_law.specs.Limits.{IsWithinEvent}
 use Rattle.sentinel_rules.specs.Steps.{IsPartsOf, IsTake, wins_of}

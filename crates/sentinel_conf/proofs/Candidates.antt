@@ -1,10 +1,9 @@
 -- The line of a candidate, and what is read of it.
-use Rattle.std.proofs.Common.{◌≡◌, ℕ, zero, suc, ◌/◌, ◌%◌, Bool, true, false, cond, eqb, List, [], ◌∷◌, length, refl, ap, sym, ◌∙◌, subst, arith, inl, inr, Option, Some, None, length-append}
+use Rattle.std.proofs.Common.{◌≡◌, ℕ, zero, suc, Bool, true, false, cond, eqb, List, [], ◌∷◌, refl, ap, sym, ◌∙◌, subst, inl, inr, Option, Some, None}
 use Rattle.std.specs.Prelude.{IfSome}
 use Rattle.std.proofs.lemmas.Bool.{eqb-true}
 use Rattle.ballot_law.specs.declared.addresses.RunId.{RunId}
 use Rattle.ballot_law.specs.Hellos.{IsRunId}
-use Rattle.ballot_law.specs.Words.{hex_digit, hex, id_text}
 use Rattle.conf_lines.specs.declared.lines.StateLine.{StateLine}
 use Rattle.conf_lines.specs.declared.lines.StateLine.TheVariants.{LeaderId}
 use Rattle.conf_lines.proofs.StateLemmas.{IsId}

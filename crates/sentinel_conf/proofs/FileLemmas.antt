@@ -2,7 +2,7 @@
 use Rattle.std.proofs.Common.{◌≡◌, ℕ, zero, suc, ◌≤◌, ◌<◌, Bool, true, false, cond, ◌||◌, List, [], ◌∷◌, ◌++◌, length, get_or, map, refl, ap, sym, ◌∙◌, subst, arith, ◌⊎◌, inl, inr, Option, Some, None}
 use Rattle.std.specs.Prelude.{unwrap_or, filter}
 use Rattle.std.specs.List.{list_any, flat_map, filter_map, cons_option, zip, AllZip, AllByRecursion}
-use Rattle.std.proofs.lemmas.Bool.{or_parts, or_from, true≢false, false_from_ne_true, cases_Bool}
+use Rattle.std.proofs.lemmas.Bool.{or_parts, true≢false, false_from_ne_true, cases_Bool}
 use Rattle.ballot_law.specs.Ordered.{repeats}
 use Rattle.sentinel_conf.specs.Meaning.{last, greatest}
 use Rattle.sentinel_conf.proofs.SetLemmas.{In, IsOrder, each_in, each_from}

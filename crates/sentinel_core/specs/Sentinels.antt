@@ -1,5 +1,5 @@
 -- A Sentinel as its callers see it.
-use Rattle.std.specs.Prelude.{◌≡◌, ◌<◌, ◌⊎◌, ℕ, Bool, true, false, ◌||◌, length, Option, IfSome}
+use Rattle.std.specs.Prelude.{◌≡◌, ◌<◌, ℕ, Bool, true, false, length, Option, IfSome}
 use Rattle.ballot_law.specs.declared.cards.Kept.{Kept}
 use Rattle.ballot_law.specs.declared.commands.Command.TheVariants.{FlushConfig}
 use Rattle.ballot_law.specs.declared.events.Event.{Event}

@@ -19,7 +19,7 @@ use Rattle.ballot_law.specs.declared.node_places.NodePlace.{NodePlace}
 use Rattle.sentinel_rules.specs.Plans.{Plan, roster_of, group_size, master_count, node_named}
 use Rattle.sentinel_rules.specs.States.{Core}
 use Rattle.sentinel_rules.specs.Parts.{quiet, part_if}
-use Rattle.sentinel_rules.specs.News.{is_heeded, hello_heeded, hello_read, answered, pinged, pinged_at, lost_at, connection_lost, info_of_node, info_read, refusal_at, refusal_heard, announced_at}
+use Rattle.sentinel_rules.specs.News.{is_heeded, hello_heeded, hello_read, answered, pinged, pinged_at, lost_at, connection_lost, info_of_node, info_read, refusal_at, announced_at}
 use Rattle.sentinel_rules.specs.Profiles.{is_redis}
 use Rattle.sentinel_rules.specs.Takes.{cleared, shown_after}
 use Rattle.sentinel_rules.specs.Ignored.{IgnoredChangesNothing, is_hello_heeded, is_info_heeded, is_other, is_data_node, is_peer_or_node}

@@ -31,8 +31,6 @@ use Rattle.sentinel_rules.specs.States.{Core, is_master_down, is_tilted, is_fail
 use Rattle.sentinel_rules.specs.Parts.{output_of, shown_of}
 use Rattle.sentinel_rules.specs.Answers.{commanded, asked_of, asked_at, address_of, master_with_card, about, named, all_masters, Answered, unchanged, reply, has_heir, wished, asked_to_switch}
 use Rattle.sentinel_rules.specs.Takes.{next_at, part_of, cleared}
-use Rattle.sentinel_rules.specs.Facts.{IsSoundPlan, IsSound}
-use Rattle.ballot_law.specs.Limits.{IsWithinEvent}
 use Rattle.sentinel_rules.specs.Limits.{EpochsAreWithin}
 use Rattle.ballot_law.specs.Limits.{HasEpochWithin, AnswersWithin, ShowsWithin}
 use Rattle.sentinel_rules.proofs.SoundInputs.{inputs_keep_few}

@@ -24,7 +24,7 @@ use Rattle.sentinel_rules.specs.declared.frames.Frame.{Frame}
 use Rattle.sentinel_rules.specs.declared.frames.TheConstants.{FRAMES_MAX}
 use Rattle.sentinel_rules.specs.declared.frames.Frame.TheVariants.{PingTo, InfoTo, HelloTo, FollowTo, AskTo, HandOverTo}
 use Rattle.sentinel_rules.specs.Plans.{Plan, me, group_size, master_count, nodes_of, node_name}
-use Rattle.sentinel_rules.specs.States.{Core, MasterState, NodeState, master_of, failover_of, is_idle, is_failing_over, is_tilted, is_master_down, is_odown_at, with_master, with_failover, with_current, is_wished, is_unrefused, card_place}
+use Rattle.sentinel_rules.specs.States.{Core, MasterState, NodeState, master_of, failover_of, is_idle, is_failing_over, is_tilted, is_odown_at, with_master, with_failover, with_current, is_wished, is_unrefused, card_place}
 use Rattle.sentinel_rules.specs.Parts.{Part, quiet, puts, then_part, part_if, frame_if, changed_from, frames_from}
 use Rattle.sentinel_rules.specs.Profiles.{is_asking, election_ms, marked_at, marked, rest_of, rested_at, rested}
 use Rattle.sentinel_rules.specs.Votes.{book_of, with_book, mark_for}

@@ -23,7 +23,7 @@ use Rattle.failover_states.specs.Failovers.{Failover}
 use Rattle.failover_states.specs.Known.{Known}
 use Rattle.failover_states.specs.Table.{Turn, turned, turn_in, table, quieted, expiring, vote_of, chosen, started}
 use Rattle.sentinel_rules.specs.Plans.{Plan, roster_of, me, group_size, master_count, nodes_of}
-use Rattle.sentinel_rules.specs.States.{Core, MasterState, master_of, failover_of, is_failing_over, is_tilted, is_master_down, is_odown_at, with_master, with_failover, with_current, is_wished}
+use Rattle.sentinel_rules.specs.States.{Core, MasterState, master_of, failover_of, is_failing_over, is_tilted, is_odown_at, with_master, with_failover, with_current, is_wished}
 use Rattle.sentinel_rules.specs.Parts.{Part, quiet, puts, then_part, part_if, changed_from, frames_from}
 use Rattle.sentinel_rules.specs.Profiles.{is_asking, election_ms, rest_of, rested}
 use Rattle.sentinel_rules.specs.Votes.{book_of, mark_for}

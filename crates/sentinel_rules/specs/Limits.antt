@@ -1,5 +1,5 @@
 -- Which numbers may stand in what is put out.
-use Rattle.std.specs.Prelude.{ℕ, ◌≤◌, List, All}
+use Rattle.std.specs.Prelude.{ℕ, List, All}
 use Rattle.ballot_law.specs.declared.events.Event.{Event}
 use Rattle.ballot_law.specs.declared.messages.Message.{Message}
 use Rattle.ballot_law.specs.declared.replies.PingReply.{PingReply}

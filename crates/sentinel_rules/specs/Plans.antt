@@ -1,6 +1,6 @@
 -- What doesn't change while a Sentinel runs: what its file says, its own place in the roster, by which rules it works, and for how many milliseconds a master
 -- may load its data after a restart, by master.
-use Rattle.std.specs.Prelude.{ℕ, zero, suc, ◌+◌, ◌-◌, nat_lt, Option, Some, None, unwrap_or, List, [], ◌∷◌, length, slice_index_or, position, if◌then◌else◌}
+use Rattle.std.specs.Prelude.{ℕ, zero, suc, ◌+◌, Option, None, unwrap_or, List, length, slice_index_or, position}
 use Rattle.ballot_law.specs.declared.addresses.Addr.{Addr}
 use Rattle.ballot_law.specs.declared.addresses.RunId.{RunId}
 use Rattle.ballot_law.specs.declared.messages.NodeName.{NodeName}

@@ -1,12 +1,11 @@
 -- A Sentinel that is opened begins its history at the world of its conf.
 use Rattle.std.proofs.Common.{◌≡◌, ◌∙◌, ◌<◌, ℕ, List, All, ap, refl, sym, subst}
 use Rattle.std.specs.Global.{Vec}
-use Rattle.std.specs.Prelude.{Option, None, Some, Result, Ok, IfSome}
+use Rattle.std.specs.Prelude.{Option, None, Some, Ok, IfSome}
 use Rattle.client_port.specs.declared.port.Port.{Port}
 use Rattle.sentinel_cell.specs.declared.keeper.Keeper.{Keeper}
 use Rattle.sentinel_cell.specs.Histories.{World, opened}
 use Rattle.sentinel_conf.specs.Meaning.{ConfPlan}
-use Rattle.conf_lines.specs.declared.faults.ConfFault.{ConfFault}
 use Rattle.sentinel_conf.specs.Reading.{conf_of_bytes}
 use Rattle.sentinel_conf.specs.Rewritten.{rewritten}
 use Rattle.sentinel_rules.specs.declared.profiles.Profile.{Profile}

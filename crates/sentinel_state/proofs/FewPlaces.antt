@@ -1,7 +1,6 @@
 -- A failover keeps its places few, whatever is done to it.
 use Rattle.std.proofs.Common.{◌≡◌, ℕ, ◌≤◌, Bool, true, false, cond, List, [], ◌∷◌, length, map, Option, Some, None, ap, sym, subst, arith}
 use Rattle.std.specs.Prelude.{IfSome, unwrap_or}
-use Rattle.std.proofs.Math.ListN.{length-set}
 use Rattle.std.proofs.lemmas.List.{length-map}
 use Rattle.ballot_law.specs.declared.rosters.TheConstants.{NODES_MAX}
 use Rattle.ballot_law.specs.declared.addresses.Addr.{Addr}
@@ -10,10 +9,10 @@ use Rattle.failover_states.specs.declared.states.FailoverState.{FailoverState}
 use Rattle.failover_states.specs.declared.states.FailoverState.TheVariants.{Idle, WaitStart, SelectReplica, SendPromotion, WaitPromotion, ReconfReplicas, UpdateConfig}
 use Rattle.failover_states.specs.declared.states.Row.{Row}
 use Rattle.failover_states.specs.declared.replicas.Replica.{Replica}
-use Rattle.failover_states.specs.Calls.{choice_of, promoted, reconfigured}
+use Rattle.failover_states.specs.Calls.{choice_of}
 use Rattle.failover_states.specs.Failovers.{Failover, ended}
 use Rattle.failover_states.specs.Known.{Known}
-use Rattle.failover_states.specs.Replicas.{told, forgotten, unordered, expired, followed, replica_at, is_due, is_next}
+use Rattle.failover_states.specs.Replicas.{told, forgotten, unordered, expired, is_due, is_next}
 use Rattle.failover_states.specs.Table.{TableRow, Turn, table, first_that_fits, vote_of, turn_in, turned, quieted, expiring, chosen, can_be_told, busy_count}
 use Rattle.sentinel_rules.proofs.Turns.{length-told}
 use Rattle.sentinel_state.specs.Places.{HasFewPlaces}

@@ -4,7 +4,6 @@ use Rattle.std.proofs.lemmas.List.{append-nil, take-append-drop}
 use Rattle.links.specs.declared.target.Target.{Target}
 use Rattle.ballot_law.specs.declared.messages.Message.{Message}
 use Rattle.links.specs.NodeLinks.{State}
-use Rattle.links.specs.Sessions.Links.{Link}
 use Rattle.tcp_transport.specs.Said.{Speaks}
 use Rattle.tcp_transport.specs.Sessions.{IsSession, IsWhole}
 use Rattle.tcp_transport.specs.Sockets.{IsQuiet, Puts}

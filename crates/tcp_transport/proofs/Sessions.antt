@@ -1,6 +1,6 @@
 -- The session of a connection stays that of its socket.
 use Rattle.std.proofs.Common.{inl, inr, ◌≡◌, ◌≢◌, ◌≤◌, ℕ, Bool, true, false, List, [], ◌∷◌, ◌++◌, length, append_assoc, refl, sym, ap, ◌∙◌, subst}
-use Rattle.std.specs.Prelude.{Option, None, Some, Result, Ok, Err, OnErr, IfOk, IfSome, IsTrue, IsFalse}
+use Rattle.std.specs.Prelude.{Option, None, Some, IsTrue, IsFalse}
 use Rattle.std.specs.List.{AllByRecursion}
 use Rattle.std.proofs.lemmas.Bool.{false≢true}
 use Rattle.std.proofs.lemmas.Option.{none-some}
@@ -13,13 +13,11 @@ use Rattle.resp2.specs.Framing.Frame.{Frame}
 use Rattle.links.specs.declared.schedule.Schedule.{Schedule}
 use Rattle.links.specs.declared.schedule.Stage.{Stage}
 use Rattle.links.specs.declared.schedule.Stage.TheVariants.{Closed, Opening, Open}
-use Rattle.links.specs.declared.sessions.fault.LinkFault.{LinkFault}
 use Rattle.links.specs.declared.sessions.questions.Question.{Question}
 use Rattle.links.specs.declared.speaking.Login.{Login}
 use Rattle.links.specs.declared.target.Target.{Target}
 use Rattle.links.specs.NodeLinks.{State, fresh, opening_at, asked_at, row_asked_at, ack_asked_at, IsDataNode, IsOwn, put_all, AsksByItself}
-use Rattle.links.specs.Sessions.Links.{Link, next_asked, Tells, IsHeard}
-use Rattle.links.specs.Speaking.{bytes_for, questions_for}
+use Rattle.links.specs.Sessions.Links.{Link, next_asked, Tells}
 use Rattle.tcp_transport.specs.Said.{Word, word_for, row_word, ack_word, first_word, MaySay, Speaks}
 use Rattle.tcp_transport.specs.Sessions.{IsHeardSoFar, IsSession, IsWhole}
 use Rattle.tcp_transport.specs.Sockets.{NoSocket, stands_of}

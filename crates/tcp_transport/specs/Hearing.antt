@@ -1,5 +1,5 @@
 -- What a Sentinel takes of what is heard for it, and which hellos it hears.
-use Rattle.std.specs.Prelude.{ℕ, Bool, true, false, ◌||◌, List, Option, None, Some, Result, Ok, Err}
+use Rattle.std.specs.Prelude.{ℕ, Bool, false, ◌||◌, List, Option, Some, Result, Ok, Err}
 use Rattle.ballot_law.specs.declared.events.Event.{Event}
 use Rattle.ballot_law.specs.declared.events.Event.TheVariants.{HelloRead}
 use Rattle.ballot_law.specs.declared.replies.Hello.{Hello}

@@ -1,9 +1,9 @@
 -- Hex digits, read one at a time.
-use Rattle.std.proofs.Common.{◌≡◌, ℕ, zero, suc, ◌+◌, ◌*◌, ◌/◌, ◌%◌, ◌^◌, ◌≤◌, ◌<◌, ◌&&◌, List, [], ◌∷◌, ◌++◌, length, append_assoc, append-nil, refl, ap, sym, ◌∙◌, arith, Option, Some, None}
+use Rattle.std.proofs.Common.{◌≡◌, ℕ, zero, suc, ◌+◌, ◌*◌, ◌/◌, ◌%◌, ◌^◌, ◌≤◌, ◌<◌, List, [], ◌∷◌, ◌++◌, length, append_assoc, append-nil, refl, ap, sym, ◌∙◌, arith, Option}
 use Rattle.std.specs.List.{list_all}
 use Rattle.std.proofs.Math.Nat.{pow-le-pow_right, pow-suc, add-mul, add_assoc, mul_assoc, mul_comm}
 use Rattle.ballot_law.specs.Words.{some_if, is_hex, hex_value, hex_on, hex, hex_digit}
-use Rattle.ballot_law.proofs.WordLemmas.{some_if-some, some_if-is, some_if-none, hex_on-append}
+use Rattle.ballot_law.proofs.WordLemmas.{hex_on-append}
 
 -- the number that these digits make after the number so far
 abbrev pub hex_tail : ℕ → List ℕ → Option ℕ

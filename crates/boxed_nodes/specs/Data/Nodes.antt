@@ -1,10 +1,10 @@
 -- A data node as its callers see it, and where it stands in a roster.
-use Rattle.std.specs.Prelude.{◌≡◌, ℕ, if◌then◌else◌, Option, Some, None, length, slice_index_or}
+use Rattle.std.specs.Prelude.{◌≡◌, ℕ, if◌then◌else◌, Option, Some, None, length}
 use Rattle.std.specs.Option.{option_map}
 use Rattle.ballot_law.specs.declared.addresses.Addr.{Addr}
 use Rattle.ballot_law.specs.Ballots.{card_of}
 use Rattle.ballot_law.specs.Orders.{same_addr}
-use Rattle.ballot_law.specs.Rosters.{Roster, master_at, no_addr}
+use Rattle.ballot_law.specs.Rosters.{Roster}
 use Rattle.boxed_nodes.specs.declared.turn.Turn.{Turn}
 use Rattle.boxed_nodes.specs.declared.turn.Turn.TheVariants.{Ready}
 use Rattle.sentinel_conf.specs.Meaning.{ConfPlan}

@@ -10,7 +10,7 @@ use Rattle.ballot_law.specs.declared.cards.Kept.{Kept}
 use Rattle.ballot_law.specs.Rosters.{Roster, MasterPlan}
 use Rattle.sentinel_conf.specs.Meaning.{ConfPlan}
 use Rattle.sentinel_conf.specs.Rewritten.{rewritten, IsKeptPart, IsKeptMaster}
-use Rattle.conf_check.specs.Repair.Mended.{card_of, cards_of, newer, newer_each, newest_from, newest, last_epoch_from, last_epoch, with_cards, kept_with, mended_text, IsCardOf, AreCardsOf, Fits, HaveRoster, HaveOneRoster}
+use Rattle.conf_check.specs.Repair.Mended.{card_of, cards_of, newer_each, newest_from, newest, last_epoch_from, last_epoch, with_cards, kept_with, mended_text, IsCardOf, AreCardsOf, Fits, HaveRoster}
 
 pub le-trans : {a b c : ℕ} → a ≤ b → b ≤ c → a ≤ c
 le-trans {a} {b} {c} one two = omega (arith, one, two)

@@ -1,12 +1,12 @@
 -- What holds of mended files.
-use Rattle.std.proofs.Common.{◌≡◌, ℕ, ◌≤◌, ◌<◌, ◌+◌, Bool, true, false, List, [], ◌∷◌, map, length, refl, ap, sym, ◌∙◌, arith}
+use Rattle.std.proofs.Common.{◌≡◌, ℕ, ◌≤◌, Bool, true, false, List, [], ◌∷◌, map, length, refl, ap, sym, ◌∙◌, arith}
 use Rattle.std.specs.Prelude.{⊤, nat_lt}
 use Rattle.std.specs.List.{AllZip}
 use Rattle.std.proofs.lemmas.Bool.Decides.{nat_tests}
 use Rattle.ballot_law.specs.declared.cards.Card.{Card}
 use Rattle.ballot_law.specs.declared.cards.KeptMaster.{KeptMaster}
 use Rattle.sentinel_conf.specs.Meaning.{ConfPlan}
-use Rattle.conf_check.specs.Repair.Mended.{card_of, cards_of, newer, newer_each, newest_from, newest, last_epoch, with_cards, mended, vote_of, NoneFalls, EachRises, MendedAgree, KeepsVotes, NoEpochFalls}
+use Rattle.conf_check.specs.Repair.Mended.{card_of, cards_of, newer_each, newest_from, newest, last_epoch, with_cards, vote_of, EachRises, MendedAgree, KeepsVotes, NoEpochFalls}
 use Rattle.conf_check.proofs.RepairLemmas.Fitting.{EachWithin, within_last, le-trans}
 
 given_cards : (masters : List KeptMaster) (cards : List Card) → length masters ≡ length cards → map card_of (with_cards masters cards) ≡ cards

@@ -8,7 +8,6 @@ use Rattle.sentinel_conf.specs.Meaning.{ConfPlan}
 use Rattle.conf_check.specs.declared.change.changes.Replacement.{Replacement}
 use Rattle.conf_check.specs.declared.change.changes.MasterSetting.{MasterSetting}
 use Rattle.conf_check.specs.declared.change.changes.MasterSetting.TheVariants.{Quorum}
-use Rattle.conf_check.specs.declared.change.changes.NewSetting.{NewSetting}
 use Rattle.conf_check.specs.declared.change.changes.Change.{Change}
 use Rattle.conf_check.specs.declared.change.changes.Change.TheVariants.{AddReplica, RemoveReplica, AddSentinel, RemoveSentinel, ReplaceHost, Set}
 

@@ -1,5 +1,5 @@
 -- What the new files of a changed group keep of those of before.
-use Rattle.std.specs.Prelude.{◌≡◌, ⊤, ℕ, ◌≤◌, ◌<◌, ◌==◌, Bool, true, false, List, [], ◌∷◌, length, map, All, slice_index_or, Option, Some, None}
+use Rattle.std.specs.Prelude.{◌≡◌, ⊤, ℕ, ◌≤◌, ◌<◌, ◌==◌, true, false, List, length, map, All, slice_index_or, Option, Some, None}
 use Rattle.std.specs.List.{list_any}
 use Rattle.ballot_law.specs.Ballots.{no_kept}
 use Rattle.ballot_law.specs.Orders.{same_id}
@@ -10,7 +10,7 @@ use Rattle.ballot_law.specs.declared.rosters.Member.{Member}
 use Rattle.ballot_law.specs.Rosters.{MasterPlan}
 use Rattle.sentinel_conf.specs.Meaning.{ConfPlan}
 use Rattle.conf_check.specs.declared.change.changes.Change.{Change}
-use Rattle.conf_check.specs.declared.change.changes.Change.TheVariants.{AddReplica, RemoveReplica, AddSentinel, RemoveSentinel, ReplaceHost, Set}
+use Rattle.conf_check.specs.declared.change.changes.Change.TheVariants.{RemoveSentinel, ReplaceHost}
 use Rattle.conf_check.specs.Repair.GroupTexts.{confs_of}
 use Rattle.conf_check.specs.Repair.Mended.{vote_of, cards_of, newest, last_epoch}
 

@@ -1,10 +1,9 @@
 -- Who is said to be at which address.
-use Rattle.std.specs.Prelude.{ℕ, ◌+◌, Bool, true, false, not, ◌&&◌, List, [], ◌∷◌, ◌++◌, map, Option, Some, None}
+use Rattle.std.specs.Prelude.{ℕ, ◌+◌, Bool, false, not, ◌&&◌, List, [], ◌∷◌, ◌++◌, map, Option, Some, None}
 use Rattle.ballot_law.specs.Cuts.{lines}
 use Rattle.ballot_law.specs.Orders.{same_addr, same_id, same_bytes}
 use Rattle.ballot_law.specs.Words.{some_if}
 use Rattle.ballot_law.specs.declared.addresses.Addr.{Addr}
-use Rattle.conf_lines.specs.declared.lines.StateLine.{StateLine}
 use Rattle.conf_lines.specs.declared.lines.StateLine.TheVariants.{MyId, Monitor, KnownReplica, KnownSentinel}
 use Rattle.conf_lines.specs.declared.lines.Line.{Line}
 use Rattle.conf_lines.specs.declared.lines.Line.TheVariants.{State}

@@ -3,7 +3,6 @@ use Rattle.std.specs.Prelude.{ℕ, ◌+◌, Bool, true, false, ◌==◌, nat_lt,
 use Rattle.std.specs.List.{list_any}
 use Rattle.ballot_law.specs.Orders.{same_bytes}
 use Rattle.ballot_law.specs.Words.{lower, some_if}
-use Rattle.conf_lines.specs.declared.lines.StateLine.{StateLine}
 use Rattle.conf_lines.specs.declared.lines.StateLine.TheVariants.{Monitor}
 use Rattle.conf_lines.specs.declared.lines.Setting.{Setting}
 use Rattle.conf_lines.specs.declared.lines.Setting.TheVariants.{DownAfter}

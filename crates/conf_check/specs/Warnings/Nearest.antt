@@ -1,5 +1,5 @@
 -- The name of a table that is nearest to a word.
-use Rattle.std.specs.Prelude.{ℕ, ◌*◌, Bool, true, false, ◌&&◌, nat_le, nat_eq, List, [], ◌∷◌, length, fold, Option, Some, None}
+use Rattle.std.specs.Prelude.{ℕ, ◌*◌, true, false, ◌&&◌, nat_le, nat_eq, List, [], ◌∷◌, length, fold, Option, Some, None}
 use Rattle.strsim.specs.Edits.{levenshtein_row}
 use Rattle.ballot_law.specs.Words.{name, some_if}
 use Rattle.conf_check.specs.declared.warnings.nearest.Near.{Near}

@@ -1,5 +1,5 @@
 -- What is told of a file, as lines of text.
-use Rattle.std.specs.Prelude.{◌≡◌, ℕ, ◌-◌, Bool, true, false, List, [], ◌++◌, Option, Some, None, codes, decimal, slice_index_or}
+use Rattle.std.specs.Prelude.{ℕ, ◌-◌, Bool, true, false, List, [], ◌++◌, Option, Some, None, codes, decimal, slice_index_or}
 use Rattle.std.specs.List.{flat_map}
 use Rattle.sentinel_conf.specs.declared.watch.faults.WatchKind.{WatchKind}
 use Rattle.sentinel_conf.specs.declared.watch.faults.WatchKind.TheVariants as watch

@@ -1,7 +1,6 @@
 -- What is told of a file that is to be one for `watch`.
-use Rattle.std.specs.Prelude.{◌≡◌, ℕ, Bool, true, false, ◌==◌, nat_le, List, [], ◌∷◌, ◌++◌, length, fold, Option, Some, None, codes, decimal}
+use Rattle.std.specs.Prelude.{ℕ, Bool, true, false, ◌==◌, nat_le, List, [], ◌∷◌, ◌++◌, length, fold, Option, Some, None, codes, decimal}
 use Rattle.std.specs.List.{filter, flat_map}
-use Rattle.sentinel_conf.specs.declared.watch.faults.WatchKind.{WatchKind}
 use Rattle.sentinel_conf.specs.declared.watch.faults.WatchKind.TheVariants as watch
 use Rattle.sentinel_conf.specs.declared.watch.settings.WatchSetting.{WatchSetting}
 use Rattle.sentinel_conf.specs.declared.watch.settings.WatchSetting.TheVariants.{MaxClients, Timeout}
@@ -12,7 +11,6 @@ use Rattle.sentinel_conf.specs.Watch.WatchLines.{watch_line}
 use Rattle.conf_check.specs.declared.warnings.line_advices.Advice.{Advice}
 use Rattle.conf_check.specs.declared.warnings.line_advices.AdviceKind.{AdviceKind}
 use Rattle.conf_check.specs.declared.warnings.line_advices.AdviceKind.TheVariants.{UnknownDirective, NoEffect, QuorumOutOfReach, ShortDownAfter}
-use Rattle.conf_check.specs.Warnings.Advices.{advices}
 use Rattle.conf_check.specs.Warnings.Losses.{directive_of, loss_of}
 use Rattle.conf_check.specs.Warnings.Warnings.{line_at, told_words}
 

@@ -1,11 +1,11 @@
 -- The steps of a text, one line after another.
-use Rattle.std.proofs.Common.{◌≡◌, ℕ, ◌+◌, List, [], ◌∷◌, ◌++◌, Result, Ok, Err, refl, ap, sym, ◌∙◌, append_assoc, append-nil}
+use Rattle.std.proofs.Common.{◌≡◌, ℕ, ◌+◌, List, ◌∷◌, ◌++◌, Result, Ok, Err, refl, ap, sym, ◌∙◌, append_assoc}
 use Rattle.ballot_law.specs.Results.{◌>>=◌}
 use Rattle.ballot_law.specs.declared.steps.Step.{Step}
 use Rattle.fault_world.specs.declared.scenarios.faults.ScenarioFault.{ScenarioFault}
 use Rattle.fault_world.specs.declared.scenarios.faults.ScenarioKind.{ScenarioKind}
 use Rattle.sentinel_rules.specs.declared.profiles.Profile.{Profile}
-use Rattle.fault_world.specs.Scenarios.Scenarios.{fault_at, at_line, behind, line_of, steps_from}
+use Rattle.fault_world.specs.Scenarios.Scenarios.{at_line, behind, line_of, steps_from}
 
 abbrev Told : Type 0
 Told = Result (List Step) ScenarioFault

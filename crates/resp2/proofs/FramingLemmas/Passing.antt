@@ -1,14 +1,14 @@
 -- Passing the items of a value one after the other, and what the reading of the whole value then gives.
 use Rattle.std.proofs.Common.{◌≡◌, ℕ, suc, zero, ◌+◌, ◌-◌, ◌<◌, ◌≤◌, false, ltb, List, [], ◌∷◌, ◌++◌, length, take, drop, Some, Result, Ok, Err, refl, sym, ap, ◌∙◌, append_assoc, arith}
 use Rattle.std.proofs.lemmas.Bool.{le-ltb}
-use Rattle.std.proofs.lemmas.List.{take-append-drop, length-append, length-drop, take_at, take_all, take-append-le, drop-append-le, append-nil}
+use Rattle.std.proofs.lemmas.List.{take-append-drop, length-append, length-drop, take_at, take_all, append-nil}
 use Rattle.ballot_law.specs.Results.{◌>>=◌}
 use Rattle.resp2.specs.declared.framing.fault.Unread.{Unread}
 use Rattle.resp2.specs.declared.framing.fault.Unread.TheVariants.{NeedsMore}
 use Rattle.resp2.specs.Framing.Faults.{IsKind}
 use Rattle.resp2.specs.Framing.Frame.{Frame, FrameList, simple, fault, int, bulk, null_bulk, items, null_items, frame, line_end, spelling}
 use Rattle.resp2.specs.Framing.Reading.{line_length, line_at, number_of, size_of, values_at, items_at, kind_at, value_at, frame_at}
-use Rattle.resp2.specs.Framing.Place.{skip, behind_open, Passed, Stands, Searched, IsOpenLine, Opens, OpensAt}
+use Rattle.resp2.specs.Framing.Place.{skip, behind_open, Passed, Stands, IsOpenLine, Opens, OpensAt}
 use Rattle.resp2.proofs.FramingLemmas.Again.{value_again}
 use Rattle.resp2.proofs.FramingLemmas.Lines.{line_takes, line_again, line_length_whole}
 use Rattle.resp2.proofs.FramingLemmas.Takes.{value_takes}

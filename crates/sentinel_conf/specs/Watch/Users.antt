@@ -5,7 +5,6 @@ use Rattle.hex.specs.Hex.{encode_lower}
 use Rattle.sha2.specs.Sha256.{sha256}
 use Rattle.ballot_law.specs.Orders.{same_bytes}
 use Rattle.ballot_law.specs.Words.{lower, some_if}
-use Rattle.sentinel_conf.specs.declared.watch.faults.WatchKind.{WatchKind}
 use Rattle.sentinel_conf.specs.declared.watch.faults.WatchKind.TheVariants.{AclUser}
 use Rattle.sentinel_conf.specs.declared.watch.settings.WatchSetting.TheVariants.{DefaultUser}
 use Rattle.sentinel_conf.specs.declared.watch.settings.WatchLine.{WatchLine}

@@ -1,12 +1,8 @@
 -- Answers that have a spelling, and lines that have room.
-use Rattle.std.proofs.Common.{◌≡◌, ◌≢◌, ◌≤◌, ◌<◌, ℕ, zero, suc, List, [], ◌∷◌, slice_index_or, Option, Some, None, refl, sym, ap, ◌∙◌, subst, arith, ◌++◌}
-use Rattle.std.specs.List.{AllZip}
-use Rattle.std.specs.Prelude.{codes, slice_get, ◌||◌, if◌then◌else◌, Bool, true, false}
+use Rattle.std.proofs.Common.{◌≡◌, ℕ, zero, suc, List, [], ◌∷◌, Option, Some, None, refl, sym, ap, ◌∙◌, subst, arith, ◌++◌}
+use Rattle.std.specs.Prelude.{slice_get, ◌||◌, if◌then◌else◌, Bool, true, false}
 use Rattle.ballot_law.specs.declared.addresses.Addr.{Addr}
 use Rattle.ballot_law.specs.declared.addresses.RunId.{RunId}
-use Rattle.ballot_law.specs.declared.cards.Kept.{Kept}
-use Rattle.ballot_law.specs.declared.cards.KeptMaster.{KeptMaster}
-use Rattle.ballot_law.specs.declared.cards.TheConstants.{MAX_EPOCH}
 use Rattle.ballot_law.specs.declared.commands.Command.{Command}
 use Rattle.ballot_law.specs.declared.commands.Command.TheVariants.{Ping, IsMasterDownByAddr, GetMasterAddrByName, Masters, Master, Replicas, Sentinels, MyId, CkQuorum, FlushConfig, Subscribe, Info, Failover}
 use Rattle.ballot_law.specs.declared.events.Event.TheVariants.{Command as Commanded}
@@ -15,18 +11,15 @@ use Rattle.ballot_law.specs.declared.messages.Message.{Message}
 use Rattle.ballot_law.specs.declared.messages.NodeName.TheVariants.{PortAt}
 use Rattle.ballot_law.specs.declared.messages.Output.{Output}
 use Rattle.ballot_law.specs.declared.messages.Output.TheVariants.{Send, Tell}
-use Rattle.ballot_law.specs.Ballots.{no_kept, voted_of}
 use Rattle.ballot_law.specs.Clocks.{clock}
-use Rattle.ballot_law.specs.Rosters.{MasterPlan}
 use Rattle.port_answers.specs.Answers.{command_fault, ok_line, in_progress, in_tilt, no_good_replica}
 use Rattle.bounded_list.specs.BoundedLists.{bounded as within_limit}
 use Rattle.port_answers.specs.Room.{bounded}
 use Rattle.resp2.specs.declared.command.CommandFault.{CommandFault}
 use Rattle.resp2.specs.declared.command.CommandFault.TheVariants.{NotACommand, UnknownCommand, WrongArguments, BadAddress, BadEpoch, BadRunId, UnknownChannel}
-use Rattle.resp2.specs.Framing.Frame.{Frame, spelling, IsLine}
+use Rattle.resp2.specs.Framing.Frame.{Frame, spelling}
 use Rattle.resp2.proofs.FramingLemmas.Lines.{pong_line}
-use Rattle.sentinel_conf.specs.Meaning.{ConfPlan}
-use Rattle.sentinel_conf.specs.Rewritten.{IsKeptMaster, IsKeptPart}
+use Rattle.sentinel_conf.specs.Rewritten.{IsKeptPart}
 use Rattle.sentinel_rules.proofs.ShownEpochs.{voted_within}
 use Rattle.sentinel_rules.specs.Answers.{commanded, asked_of, master_with_card, named, about, reply, master_row, replica_rows, sentinel_rows, quorum_frame, Answered, unchanged, has_heir, wished, asked_to_switch}
 use Rattle.sentinel_rules.specs.Plans.{Plan}

@@ -1,12 +1,12 @@
 -- The numbers of the data nodes, counted over the masters.
-use Rattle.std.proofs.Common.{◌≡◌, ℕ, zero, suc, ◌≤◌, ◌<◌, ◌+◌, ◌-◌, ◌*◌, if◌then◌else◌, List, [], ◌∷◌, length, drop, refl, ap, sym, ◌∙◌, arith, add-one, drop-cons}
+use Rattle.std.proofs.Common.{◌≡◌, ℕ, zero, suc, ◌≤◌, ◌<◌, ◌+◌, ◌-◌, ◌*◌, List, [], ◌∷◌, length, refl, ap, sym, ◌∙◌, arith, add-one}
 use Rattle.std.specs.Prelude.{Option, Some, None, IfSome, IfNone, slice_index_or}
 use Rattle.ballot_law.specs.declared.node_places.NodePlace.{NodePlace}
 use Rattle.ballot_law.specs.declared.rosters.TheConstants.{MASTERS_MAX, NODES_MAX}
 use Rattle.ballot_law.specs.Rosters.{MasterPlan, no_master}
 use Rattle.sentinel_conf.specs.Facts.{IsSoundConf}
 use Rattle.sentinel_conf.specs.Meaning.{ConfPlan}
-use Rattle.ballot_law.specs.NodePlaces.{first_number, node_numbered}
+use Rattle.ballot_law.specs.NodePlaces.{first_number}
 
 -- each of these masters has at most 256 data nodes
 pub record HasFewNodes (masters : List MasterPlan) : Type 0 where

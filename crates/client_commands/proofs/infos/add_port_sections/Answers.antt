@@ -1,4 +1,4 @@
-use Rattle.std.proofs.Common.{◌∙◌, ℕ, List, [], ap, sym}
+use Rattle.std.proofs.Common.{◌∙◌, ℕ, List, ap, sym}
 use Rattle.client_commands.specs.declared.infos.Section.TheVariants.{Server, Clients, Stats, Cpu}
 use Rattle.client_commands.specs.Sections.{with_asked, port_sections}
 use Rattle.client_commands.proofs.Bytes.{set_to}

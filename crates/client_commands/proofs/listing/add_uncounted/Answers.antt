@@ -1,4 +1,4 @@
-use Rattle.std.proofs.Common.{ap, ◌∙◌, ◌∷◌, [], ◌++◌, ℕ, List}
+use Rattle.std.proofs.Common.{ap, ◌∙◌, ◌∷◌, [], ◌++◌, ℕ}
 use Rattle.std.specs.Prelude.{codes, decimal}
 use Rattle.client_commands.specs.Protocols.{version}
 use Rattle.client_commands.specs.ClientLines.{labelled, uncounted}

@@ -1,4 +1,4 @@
-use Rattle.std.proofs.Common.{◌≡◌, ◌++◌, length}
+use Rattle.std.proofs.Common.{◌≡◌, length}
 use Rattle.std.specs.List.{list_any}
 use Rattle.client_commands.specs.Pieces.{all_in}
 use Rattle.client_commands.specs.Tables.{is_mark_of}

@@ -1,4 +1,4 @@
-use Rattle.std.proofs.Common.{◌≡◌, ◌++◌, length}
+use Rattle.std.proofs.Common.{◌≡◌, length}
 use Rattle.client_commands.specs.Rows.{all_commands}
 use Rattle.client_commands.specs.Tables.{named}
 use Rattle.client_commands.proofs.tables.named.Given as goal

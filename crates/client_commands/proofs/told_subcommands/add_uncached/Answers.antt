@@ -1,4 +1,4 @@
-use Rattle.std.proofs.Common.{◌≡◌, ◌∙◌, ◌-◌, ◌++◌, ℕ, List, ap, sym, append_assoc}
+use Rattle.std.proofs.Common.{◌∙◌, ◌-◌, ◌++◌, ℕ, List, ap, sym, append_assoc}
 use Rattle.resp2.specs.Framing.Frame.{spellings}
 use Rattle.client_commands.specs.Courtesies.{uncached}
 use Rattle.client_commands.proofs.Bytes.{uncached_row, uncached_more}

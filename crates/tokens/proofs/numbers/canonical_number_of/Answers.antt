@@ -1,4 +1,4 @@
-use Rattle.std.proofs.Common.{◌<◌, ◌^◌, ◌∙◌, true, false, sym, arith}
+use Rattle.std.proofs.Common.{◌<◌, ◌^◌, true, false, sym, arith}
 use Rattle.tokens.proofs.NumberLemmas.{canonical_by_lead}
 use Rattle.tokens.proofs.numbers.canonical_number_of.Goals as goal
 

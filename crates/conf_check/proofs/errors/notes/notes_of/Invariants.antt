@@ -1,4 +1,4 @@
-use Rattle.std.proofs.Common.{◌≡◌, ℕ, List, ◌++◌, length}
+use Rattle.std.proofs.Common.{ℕ, List, ◌++◌, length}
 use Rattle.conf_check.specs.Errors.AllFaults.{all_faults}
 use Rattle.conf_check.specs.Errors.Notes.{AreNotes}
 use Rattle.conf_check.proofs.errors.notes.notes_of.Given as goal

@@ -1,6 +1,5 @@
 use Rattle.std.proofs.Common.{◌≡◌, ◌∙◌, ap, sym}
 use Rattle.client_commands.specs.Attendants.{Attendance}
-use Rattle.client_commands.specs.declared.protocols.Protocol.{Protocol}
 use Rattle.client_commands.specs.declared.protocols.Protocol.TheVariants.{Two, Three}
 use Rattle.resp2.specs.Framing.Frame.{view}
 use Rattle.courteous_sessions.specs.OnTheWay.{guest_of}

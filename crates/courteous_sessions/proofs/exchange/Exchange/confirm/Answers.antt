@@ -1,4 +1,3 @@
-use Rattle.std.proofs.Common.{◌∙◌, ap}
 use Rattle.port_sessions.specs.Talks.{party}
 use Rattle.courteous_sessions.specs.Visits.{hears_switches}
 use Rattle.courteous_sessions.proofs.Losing.{tunes_lost, unconfirmed}

@@ -1,6 +1,6 @@
-use Rattle.std.proofs.Common.{◌≡◌, ◌∙◌, ap, sym, subst, take, drop, length}
+use Rattle.std.proofs.Common.{◌∙◌, ap, sym, subst, take, drop, length}
 use Rattle.std.specs.Prelude.{OnOk}
-use Rattle.client_commands.specs.declared.protocols.Protocol.TheVariants.{Two, Three}
+use Rattle.client_commands.specs.declared.protocols.Protocol.TheVariants.{Three}
 use Rattle.resp2.specs.Framing.Frame.{view}
 use Rattle.courteous_sessions.specs.declared.shapes.Shape.{Shape}
 use Rattle.courteous_sessions.specs.OnTheWay.{guest_of}

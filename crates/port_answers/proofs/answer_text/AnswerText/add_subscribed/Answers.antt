@@ -1,4 +1,4 @@
-use Rattle.std.proofs.Common.{◌≡◌, ◌∙◌, ◌++◌, ap, sym}
+use Rattle.std.proofs.Common.{◌∙◌, ◌++◌, ap, sym}
 use Rattle.port_answers.specs.Room.{bounded}
 use Rattle.port_answers.proofs.Subscribing.{subscribed_bytes}
 use Rattle.port_answers.proofs.answer_text.AnswerText.add_subscribed.Goals as goal

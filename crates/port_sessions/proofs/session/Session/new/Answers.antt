@@ -1,4 +1,4 @@
-use Rattle.std.proofs.Common.{List, [], ℕ, Option, None, ap, ◌∙◌}
+use Rattle.std.proofs.Common.{List, [], ℕ, None, ap, ◌∙◌}
 use Rattle.resp2.specs.Framing.Stream.{bytes_in}
 use Rattle.port_sessions.specs.declared.hearing.NotesHeard.{NotesHeard}
 use Rattle.port_sessions.specs.Talks.{Talk}

@@ -1,4 +1,4 @@
-use Rattle.std.proofs.Common.{◌≡◌, ℕ, ◌+◌, Bool, true, false, if◌then◌else◌, ap, sym, ◌∙◌}
+use Rattle.std.proofs.Common.{◌≡◌, ℕ, Bool, true, false, if◌then◌else◌, ap, sym, ◌∙◌}
 use Rattle.std.specs.Prelude.{is_some, not, unwrap_or}
 use Rattle.ballot_law.specs.Clocks.{clock}
 use Rattle.failover_states.specs.Calls.{epoch_of}

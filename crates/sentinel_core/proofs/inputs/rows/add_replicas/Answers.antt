@@ -1,11 +1,10 @@
-use Rattle.std.proofs.Common.{◌≡◌, ◌++◌, ℕ, false, length, ap, ◌∙◌, subst, arith, below_more}
+use Rattle.std.proofs.Common.{◌≡◌, ◌++◌, ℕ, false, length, subst, arith, below_more}
 use Rattle.ballot_law.specs.Clocks.{clock}
 use Rattle.resp2.specs.Framing.Frame.{spelling}
 use Rattle.port_answers.specs.Room.{bounded}
 use Rattle.port_answers.specs.Answers.{header}
 use Rattle.port_answers.specs.Limits.{IsReplicaRow}
 use Rattle.sentinel_rules.specs.Answers.{replica_row}
-use Rattle.sentinel_rules.specs.Plans.{nodes_of}
 use Rattle.sentinel_rules.specs.Rows.{is_left_out, places_told, replica_frame_by}
 use Rattle.sentinel_core.proofs.InputsLemmas.AnswerRows.{text_below, text_told, one_written, replicas_whole}
 use Rattle.sentinel_core.proofs.inputs.rows.add_replicas.Goals as goal

@@ -1,8 +1,8 @@
-use Rattle.std.proofs.Common.{◌≡◌, ◌∙◌, sym, ap, Bool, true, false, true≢false}
+use Rattle.std.proofs.Common.{◌∙◌, sym, ap, true, false, true≢false}
 use Rattle.std.proofs.lemmas.Bool.{or_parts}
 use Rattle.sentinel_rules.specs.Plans.{Plan}
 use Rattle.sentinel_outbox.specs.declared.phase.Phase.TheVariants.{Pending}
-use Rattle.sentinel_core.specs.Sentinels.{is_pending, is_flush}
+use Rattle.sentinel_core.specs.Sentinels.{is_pending}
 use Rattle.sentinel_core.proofs.Holding.{on_ok, refused_of, same_kept, holds_stored, holds_refused}
 use Rattle.sentinel_core.proofs.sentinel_port.SentinelPortSentinel.carry_out.Goals as goal
 

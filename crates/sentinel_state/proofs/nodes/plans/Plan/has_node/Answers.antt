@@ -1,4 +1,4 @@
-use Rattle.std.proofs.Common.{◌≡◌, ap, ◌∙◌}
+use Rattle.std.proofs.Common.{ap, ◌∙◌}
 use Rattle.std.specs.List.{list_any}
 use Rattle.ballot_law.specs.Orders.{same_addr}
 use Rattle.ballot_law.specs.Rosters.{Roster, master_at}

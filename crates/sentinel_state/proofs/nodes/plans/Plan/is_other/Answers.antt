@@ -1,4 +1,4 @@
-use Rattle.std.proofs.Common.{◌≡◌, ◌==◌, nat_lt, ap, sym, ◌∙◌}
+use Rattle.std.proofs.Common.{◌==◌, nat_lt, ap, sym, ◌∙◌}
 use Rattle.std.specs.Prelude.{◌&&◌, not}
 use Rattle.std.proofs.lemmas.Bool.{lt-ltb}
 use Rattle.sentinel_state.proofs.nodes.plans.Plan.is_other.Goals as goal

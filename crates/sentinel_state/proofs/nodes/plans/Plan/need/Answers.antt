@@ -1,4 +1,4 @@
-use Rattle.std.proofs.Common.{◌≡◌, ap, ◌∙◌}
+use Rattle.std.proofs.Common.{ap, ◌∙◌}
 use Rattle.ballot_law.specs.Rosters.{Roster, need}
 use Rattle.sentinel_state.proofs.nodes.plans.Plan.need.Goals as goal
 

@@ -1,4 +1,4 @@
-use Rattle.std.proofs.Common.{◌≡◌, ◌+◌, ap}
+use Rattle.std.proofs.Common.{◌+◌, ap}
 use Rattle.ballot_law.specs.declared.messages.NodeName.TheVariants.{StoreAt}
 use Rattle.sentinel_state.proofs.nodes.plans.Plan.node_name.Goals as goal
 

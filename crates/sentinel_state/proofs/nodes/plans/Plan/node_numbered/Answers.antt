@@ -1,4 +1,4 @@
-use Rattle.std.proofs.Common.{◌≡◌, ◌<◌, length, ap, subst, ◌∙◌}
+use Rattle.std.proofs.Common.{◌<◌, length, ap, subst, ◌∙◌}
 use Rattle.std.specs.Prelude.{IfSome}
 use Rattle.ballot_law.specs.NodePlaces.{node_numbered}
 use Rattle.ballot_law.specs.Rosters.{Roster, master_at}

@@ -1,4 +1,4 @@
-use Rattle.std.proofs.Common.{◌≡◌, length, ap, ◌∙◌}
+use Rattle.std.proofs.Common.{length, ap, ◌∙◌}
 use Rattle.std.specs.Prelude.{unwrap_or, position}
 use Rattle.ballot_law.specs.Orders.{same_addr}
 use Rattle.sentinel_state.proofs.nodes.plans.Plan.node_place.Goals as goal
