@@ -221,7 +221,7 @@ impl<S: ConfStore + Drop> Watch<S> {
     /// the conf keeps is stored once its port is had, which is served after that: where the port can't be had the store
     /// is as it was.
     ///
-    /// Each thread of the port wants the password of the settings, and the connections log in by the settings' logins.
+    /// Each thread of the port wants the password of the settings, and the connections begin with the settings' logins.
     ///
     /// `Halted` where the store refuses the text, `PortRefused` where a port can't be had, or would have to want a
     /// password of clients by a strict profile, which asks nobody for one, and `NoMemory`: `NotOneRoster` never comes.
