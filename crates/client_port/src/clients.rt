@@ -1,6 +1,6 @@
 //! The connections of a port.
 
-ghost use Rattle.std.specs.Prelude.{◌≡◌, ◌≢◌, ◌≤◌, ◌⊎◌, ℕ, [], None, true, false, IfOk, IfSome};
+ghost use Rattle.std.specs.Prelude.{◌≡◌, ◌≢◌, ◌≤◌, ◌<◌, ◌⊎◌, ℕ, [], None, true, false, IfOk, IfSome};
 ghost use Rattle.slab.specs.Slab.{get, slab_len};
 ghost use Rattle.courteous_sessions.specs.Clients.{begun, listens_of, owes_password, unsent_of};
 ghost use Rattle.sentinel_rules.specs.Profiles.{is_redis};
@@ -26,7 +26,7 @@ use sentinel_runtime::{News, RunState, RunningSentinel, ThreadSeat, Which};
 use slab::Slab;
 use std::alloc::{AllocError, Global};
 use std::io::{self, ErrorKind};
-use std::net::Net;
+use std::net::{Net, SocketAddr};
 use std::rt::Clock;
 use std::sync::atomic::{AtomicU64, Ordering};
 use std::sync::{Arc, Wait};
@@ -240,6 +240,55 @@ impl Clients {
         Ok(())
     }
 
+    /// The arrival of who comes on this connection, from this address, under the next id. The error is the system's.
+    fn next_arrival(&mut self, stream: &TcpStream, address: SocketAddr) -> io::Result<Arrival>
+        ensures kept { (self.new.connections ≡ self.old.connections) × (self.new.room ≡ self.old.room) }
+    {
+        let arrival = Arrival {
+            id: self.next_id,
+            address,
+            local: stream.local_addr()?,
+            came: self.reading,
+        };
+        self.next_id = self.next_id.saturating_add(u64::from(self.room.threads()));
+        Ok(arrival)
+    }
+
+    /// Makes room for a connection under this key, and waits for what comes on it. The error is the system's;
+    /// `OutOfMemory` is a refused allocation.
+    fn register(
+        &mut self,
+        key: usize,
+        connection: &mut Connection<TcpStream>,
+        arrival: &Arrival,
+    ) -> io::Result<()>
+        ensures kept { (self.new.connections ≡ self.old.connections) × (self.new.room ≡ self.old.room) }
+    {
+        self.make_room(key)?;
+        self.poll.registry().register(
+            connection.stream_mut(),
+            Token(key),
+            Interest::READABLE | Interest::WRITABLE,
+        )?;
+        // (who isn't served stands on no list of clients)
+        self.roll.add(key, arrival)?;
+        Ok(())
+    }
+
+    /// Keeps a connection. An error drops it.
+    fn insert(&mut self, mut connection: Connection<TcpStream>, arrival: &Arrival) -> io::Result<()>
+        requires room { slab_len self.old.connections < self.old.room.each }
+    {
+        let key = self.connections.vacant_key();
+        self.register(key, &mut connection, arrival)?;
+        let kept = self.connections.insert(connection);
+        if kept.is_err() {
+            self.roll.remove(key);
+        }
+        kept?;
+        Ok(())
+    }
+
     /// Keeps a connection where there is room and memory for it, and else drops it: whether there is room. What is
     /// sent on it doesn't wait until the client has acknowledged what was sent before, as a note after another one
     /// would.
@@ -248,7 +297,7 @@ impl Clients {
             return Ok(false);
         }
         let Newcomer {
-            mut stream,
+            stream,
             address,
             place,
             is_peer,
@@ -258,34 +307,13 @@ impl Clients {
         let Ok(session) = self.next_session() else {
             return Ok(false);
         };
-        let arrival = Arrival {
-            id: self.next_id,
-            address,
-            local: stream.local_addr()?,
-            came: self.reading,
-        };
-        self.next_id = self.next_id.saturating_add(u64::from(self.room.threads()));
-        let key = self.connections.vacant_key();
-        self.make_room(key)?;
-        self.poll.registry().register(
-            &mut stream,
-            Token(key),
-            Interest::READABLE | Interest::WRITABLE,
-        )?;
         let origin = Origin {
             place,
             is_peer,
             came: self.reading,
         };
-        // (who isn't served stands on no list of clients)
-        self.roll.add(key, &arrival)?;
-        let kept = self
-            .connections
-            .insert(Connection::new(stream, session, origin));
-        if kept.is_err() {
-            self.roll.remove(key);
-        }
-        kept?;
+        let arrival = self.next_arrival(&stream, address)?;
+        self.insert(Connection::new(stream, session, origin), &arrival)?;
         Ok(true)
     }
 

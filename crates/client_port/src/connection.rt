@@ -86,6 +86,11 @@ impl<T: Drop> Connection<T> {
         }
     }
 
+    /// What it is read from.
+    pub(crate) fn stream_mut(&mut self) -> &mut T {
+        &mut self.stream
+    }
+
     /// On which seat it is kept.
     pub(crate) fn place(&self) -> Place
         ensures { result ≡ self.now.origin.place }

@@ -14,15 +14,9 @@ fn copy_of_event(alloc: Global, event: &Event) -> Result<Event, NoMemory>
     ensures { IfOk result (λ copy. copy ≡ event.now) }
 {
     match event {
-        Event::Tick { master, random } => Ok(Event::Tick {
-            master: *master,
-            random: *random,
-        }),
-        Event::Command { sender, command } => Ok(Event::Command {
-            sender: *sender,
-            command: *command,
-        }),
-        Event::Answered {
+        &Event::Tick { master, random } => Ok(Event::Tick { master, random }),
+        &Event::Command { sender, command } => Ok(Event::Command { sender, command }),
+        &Event::Answered {
             voter,
             master,
             addr,
@@ -30,17 +24,14 @@ fn copy_of_event(alloc: Global, event: &Event) -> Result<Event, NoMemory>
             leader,
             epoch,
         } => Ok(Event::Answered {
-            voter: *voter,
-            master: *master,
-            addr: *addr,
-            down: *down,
-            leader: *leader,
-            epoch: *epoch,
+            voter,
+            master,
+            addr,
+            down,
+            leader,
+            epoch,
         }),
-        Event::Pinged { node, reply } => Ok(Event::Pinged {
-            node: *node,
-            reply: *reply,
-        }),
+        &Event::Pinged { node, reply } => Ok(Event::Pinged { node, reply }),
         Event::InfoRead { node, text } => Ok(Event::InfoRead {
             node: *node,
             text: Text::from_slice(alloc, text.as_slice())?,
@@ -48,16 +39,16 @@ fn copy_of_event(alloc: Global, event: &Event) -> Result<Event, NoMemory>
         Event::HelloRead { text } => Ok(Event::HelloRead {
             text: Text::from_slice(alloc, text.as_slice())?,
         }),
-        Event::Disconnected { node } => Ok(Event::Disconnected { node: *node }),
-        Event::Refused { node } => Ok(Event::Refused { node: *node }),
-        Event::Become {
+        &Event::Disconnected { node } => Ok(Event::Disconnected { node }),
+        &Event::Refused { node } => Ok(Event::Refused { node }),
+        &Event::Become {
             priority,
             offset,
             link_down,
         } => Ok(Event::Become {
-            priority: *priority,
-            offset: *offset,
-            link_down: *link_down,
+            priority,
+            offset,
+            link_down,
         }),
         Event::Handed(message) => Ok(Event::Handed(copy_of(alloc, message)?)),
     }

@@ -109,6 +109,31 @@ impl<S: ConfStore + Drop> LifeEnds<S> {
         let Restart { opened } = self.await_start(rt, &deliveries, ending)?;
         Some(Life { opened, deliveries })
     }
+
+    /// Runs the threads of a life until the group ends or the Sentinel is stopped: the life that it is started with
+    /// then. None where the group ends, as it does where a thread can't be made.
+    fn next_life<R: Threads + Wait + Clock + ReadsTimes + Log + Sync>(
+        &self,
+        rt: &R,
+        alloc: Global,
+        shared: &Shared,
+        life: Life<S>,
+        ending: &AtomicU64,
+    ) -> Option<Life<S>>
+    where
+        S: Send,
+    {
+        let place = life.opened.place;
+        let stop = shared.stops.of(place)?;
+        let left = life.run(rt, alloc, shared, stop);
+        if ending.load(Ordering::SeqCst) != 0 {
+            return None;
+        }
+        let Some(left) = left else {
+            return none_for_want(&shared.state, ending);
+        };
+        self.again(rt, left, place, ending)
+    }
 }
 
 impl<S: ConfStore + Drop> Life<S> {
@@ -162,24 +187,12 @@ impl<S: ConfStore + Drop> Started<S> {
     where
         S: Send,
     {
-        let Started { life, ends } = self;
-        let place = life.opened.place;
-        let Some(stop) = shared.stops.of(place) else {
-            return;
-        };
-        let mut next = Some(life);
+        let Started { mut life, ends } = self;
         for _ in rt.forever() {
-            let Some(life) = next.take() else {
+            let Some(next) = ends.next_life(rt, alloc, shared, life, ending) else {
                 return;
             };
-            let left = life.run(rt, alloc, shared, stop);
-            if ending.load(Ordering::SeqCst) != 0 {
-                return;
-            }
-            let Some(left) = left else {
-                return end_for_want(&shared.state, ending);
-            };
-            next = ends.again(rt, left, place, ending);
+            life = next;
         }
     }
 }
