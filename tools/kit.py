@@ -21,6 +21,8 @@ import sys
 import threading
 import time
 
+import edits
+
 TOP = os.path.dirname(os.path.dirname(os.path.realpath(__file__)))
 OUT = f"{TOP}/out"
 PROGRAM = "sentinel_group"
@@ -320,6 +322,9 @@ class Libraries:
 def main():
     here, rt = os.getcwd(), load()
     os.chdir(here)
+    # (kit 13f keeps what came of an edit by its own trial)
+    if not hasattr(rt, "Kept"):
+        rt.must_fail_all = edits.gate_trial(rt)
     sys.exit(rt.main(sys.argv[1:]))
 
 
