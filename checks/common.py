@@ -37,6 +37,7 @@ PACKAGES = {
     "ip": "apt-get install iproute2",
     "nsenter": "apt-get install util-linux",
     "prometheus-redis-exporter": "apt-get install prometheus-redis-exporter",
+    "prometheus": "apt-get install prometheus",
     "promtool": "apt-get install prometheus",
     "redis-benchmark": "apt-get install redis-tools",
     "redis-cli": "apt-get install redis-tools",
