@@ -33,6 +33,7 @@ import kit
 PROGRAM = os.environ.get("SENTINEL_GROUP") or kit.kept("proved") or kit.kept("unproved") or os.path.join(kit.OUT, "proved", kit.PROGRAM)
 PACKAGES = {
     "cc": "apt-get install gcc",
+    "dpkg-deb": "apt-get install dpkg",
     "haproxy": "apt-get install haproxy",
     "ip": "apt-get install iproute2",
     "nsenter": "apt-get install util-linux",
