@@ -2,6 +2,7 @@
 
 A check that uses them calls `enter()` first, as root: it makes the root by debootstrap, unless the caller names one, and starts the check anew in namespaces of mounts and networks.
 """
+import contextlib
 import os
 import shutil
 import signal
@@ -93,24 +94,27 @@ class Container:
             out.write(NETWORK.replace("ADDRESS", address))
         os.symlink("../lab-net.service", f"{units}/multi-user.target.wants/lab-net.service")
 
-    @property
-    def pid(self):
-        return self.process.pid
-
-    def start(self):
-        """Boots it, in groups of processes of its own."""
+    def start(self, pid_file):
+        """Boots it, in groups of processes of its own, and again when it reboots; the file gets the process that runs it now."""
         words = ["systemd-nspawn", "-q", "-D", self.root, "--boot", "--network-bridge=br0", "--register=no", "--keep-unit", f"--machine={self.name}"]
         own = "; ".join(f"mkdir -p {it} && echo $$ > {it}/cgroup.procs" for it in self.groups)
+        # (it ends with 133 where a unit is to start it anew)
+        script = f"{own}; while {' '.join(words)} & echo $! | tee {self.folder}/runs > {pid_file}; wait $!; [ $? = 133 ]; do :; done"
         with open(f"{self.folder}/log", "wb") as log:
-            self.process = subprocess.Popen(["bash", "-c", f"{own}; exec {' '.join(words)}"], stdin=subprocess.DEVNULL, stdout=log, stderr=log)
+            self.process = subprocess.Popen(["bash", "-c", script], stdin=subprocess.DEVNULL, stdout=log, stderr=log)
+        common.wait_for(lambda: os.path.getsize(pid_file) > 0, 60)
 
     def kill(self):
         """It is off at once."""
         if self.process and self.process.poll() is None:
-            for pid in subprocess.run(f"cat /proc/{self.pid}/task/*/children", shell=True, stdout=subprocess.PIPE, check=False, text=True).stdout.split():
-                os.kill(int(pid), signal.SIGKILL)
             self.process.kill()
             self.process.wait()
+            with open(f"{self.folder}/runs", encoding="ascii") as text:
+                runs = int(text.read())
+            inner = subprocess.run(f"cat /proc/{runs}/task/*/children", shell=True, stdout=subprocess.PIPE, stderr=subprocess.DEVNULL, check=False, text=True).stdout.split()
+            for pid in [*inner, runs]:
+                with contextlib.suppress(ProcessLookupError):
+                    os.kill(int(pid), signal.SIGKILL)
 
     def end(self):
         self.kill()
