@@ -47,6 +47,8 @@ PACKAGES = {
     "rt": "the toolchain of Rattle, whose folder of commands stands in PATH",
     "strace": "apt-get install strace",
     "tclsh": "apt-get install tcl",
+    "wg": "apt-get install wireguard-tools",
+    "wg-quick": "apt-get install wireguard-tools",
 }
 FIRST_PORT, LAST_PORT = 10_000, 32_000  # below the ports that a system gives to connections
 LONG = 300  # seconds after which what doesn't come is given up: only a run that fails waits so long
