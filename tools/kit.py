@@ -36,7 +36,7 @@ def load():
     """rt's own code, as a module, made ready to run commands that end when this process ends."""
     path = shutil.which("rt")
     if not path:
-        sys.exit('rt, the command of the Rattle kit, is not on PATH: README.md tells of it under "Run it"')
+        sys.exit('rt, the command of the Rattle kit, is not on PATH: README.md tells of it under "Build it"')
     loader = importlib.machinery.SourceFileLoader("rt_itself", os.path.realpath(path))
     rt = importlib.util.module_from_spec(importlib.util.spec_from_loader("rt_itself", loader))
     sys.modules["rt_itself"] = rt
