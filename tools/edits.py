@@ -26,6 +26,9 @@ CITES = re.compile(r"has no field|is not in scope|has no `|was not admitted")
 # Where a crate's laws stand: functions whose contracts are what the definitions come to.
 LAWS = "src/laws.rt"
 
+# How rt begins to tell of an edit that it refused.
+RT_SAYS = "refused, as it must be: "
+
 # What stands in a log for the line of an edit that its own check refused by no line of its function's own proof.
 NO_LINE = "by no line of its own proof"
 
@@ -350,7 +353,8 @@ def gate_trial(rt):
             trial = Trial(rt, crate, flags[-1], room)
             trial.run(edits)
         label = {it.name: f"must-fail {crate.name}/{os.path.basename(it.file)}" for it in edits}
-        said = {name: (True, f"{label[name]}: refused, as it must be: {why[:160]}") for name, why in trial.refused.items()}
+        told = {name: why.removeprefix(RT_SAYS) for name, why in trial.refused.items()}
+        said = {name: (True, f"{label[name]}: {RT_SAYS}{why[:160]}") for name, why in told.items()}
         said.update({name: (False, f"{label[name]}: {why[:400]}") for name, why in trial.missed.items()})
         return [said[it.name] for it in edits]
 
