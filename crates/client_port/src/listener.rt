@@ -48,6 +48,13 @@ pub struct Sockets {
 }
 
 impl Sockets {
+    /// None, for a port that listens later.
+    pub fn none(alloc: Global) -> Sockets {
+        Sockets {
+            all: Vec::new(alloc),
+        }
+    }
+
     /// One that listens at this address.
     pub(crate) fn at<N: Net>(net: &N, alloc: Global, address: SocketAddr) -> io::Result<Sockets> {
         let mut all = Vec::new(alloc);
@@ -116,6 +123,16 @@ impl Listener {
             crowding: Crowding::new(),
             accepts: false,
         })
+    }
+
+    /// Accepts what comes to these sockets too.
+    pub(crate) fn add(&mut self, registry: &Registry, sockets: Sockets) -> io::Result<()> {
+        let Sockets { all } = sockets;
+        for mut socket in all {
+            registry.register(&mut socket, LISTENER, Interest::READABLE)?;
+            self.sockets.push(socket)?;
+        }
+        Ok(())
     }
 
     /// The desk of the thread that has the fewest connections, where one has fewer than so many.

@@ -131,6 +131,17 @@ impl Port {
         Ok((first, others))
     }
 
+    /// Accepts what comes to these sockets too, where this is what the first thread serves; else they are closed. An
+    /// error is the system's; `OutOfMemory` is a refused allocation.
+    pub fn listen(&mut self, sockets: Sockets) -> io::Result<()>
+        ensures { self.new.clients.terms.password ≡ self.old.clients.terms.password }
+    {
+        match &mut self.entrance {
+            Acceptor::Listens(listener) => listener.add(self.clients.registry(), sockets),
+            Acceptor::IsHanded(_) => Ok(()),
+        }
+    }
+
     /// Serves until `ending` isn't 0 or the Sentinel closes its port, and looks at the first of these before each
     /// connection. The error is the system's, where it tells of no connection any more. No memory is taken for that: a
     /// connection that has none is closed.

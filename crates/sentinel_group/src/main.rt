@@ -19,6 +19,7 @@ mod new_files;
 mod new_folders;
 mod new_groups;
 mod new_ids;
+mod new_texts;
 mod noted_store;
 mod ready_files;
 mod redis_text;

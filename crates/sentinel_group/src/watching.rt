@@ -18,7 +18,7 @@ use crate::locks::{FileLock, lock_file, refuse_lock};
 use crate::noted_store::{NotedFile, NotedStore, TellsFault};
 use crate::ready_files::ReadyFile;
 use crate::starting::note_sentinel;
-use crate::telling::{note_watch, tell_faults, tell_watch};
+use crate::telling::{note_foreign_ip, note_watch, tell_faults, tell_watch};
 use ballot_law::Text;
 use clap::ArgMatches;
 use client_port::{Admission, PortAddress, ReadsTimes};
@@ -27,7 +27,7 @@ use sentinel_conf::{Conf, ConfStore, WatchConf, WatchFault, WatchKind, read_watc
 use sentinel_core::ServeFault;
 use sentinel_rules::Profile;
 use sentinel_runner::{
-    GroupFault, LoadedConf, PortSettings, Unloaded, Watch, WatchSettings, reboots_of,
+    GroupFault, LoadedConf, PortSettings, TellsOpen, Unloaded, Watch, WatchSettings, reboots_of,
 };
 use std::alloc::{AllocError, Global};
 use std::net::{Ipv4Addr, Net, SocketAddr};
@@ -254,20 +254,18 @@ fn watch_file<'a, R: Log>(
     }
 }
 
-/// The file that the words name, and its lock. What is wrong with it is told also where another program runs on it.
+/// The file at the path, and its lock. What is wrong with it is told also where another program runs on it.
 fn locked_file<'a, R: Log>(
     rt: HostRuntime,
     noting: &'a R,
+    path: &ConfPath<'_>,
     words: &ArgMatches,
 ) -> Result<(WatchFile<NotedFile<'a, R>>, FileLock), ExitCode>
     ensures store { IfOk result (λ locked. locked.0.loaded.store ≡ 0) }
     ensures settings { IfOk result (λ locked. IsSaidIn locked.0.loaded.conf locked.0.loaded.text locked.0.settings) }
 {
-    let Ok(path) = ConfPath::of(rt, words.get_str("conf").unwrap_or("")) else {
-        return Err(fail(&rt, ServeFault::NoMemory));
-    };
-    let locked = lock_file(rt, &path);
-    let file = watch_file(rt, noting, &path, port_of(words))?;
+    let locked = lock_file(rt, path);
+    let file = watch_file(rt, noting, path, port_of(words))?;
     match locked {
         Ok(lock) => {
             lock.note(noting, path.named());
@@ -283,9 +281,31 @@ fn note_begin<R: Log>(rt: HostRuntime, noting: &R, path: &str, conf: &Conf, text
     note_sentinel(noting, conf);
     let sentinels = conf.roster().sentinels().len() as u64;
     note_watch(rt, noting, path, sentinels, text);
+    note_foreign_ip(rt, noting, path, conf);
 }
 
-/// Runs a Sentinel whose port is open, and keeps its ready file meanwhile.
+/// The ready file of a Sentinel, made once its port is open; and the status, where it can't be made.
+#[derive(Drop)]
+struct Readiness<'a, R> {
+    rt: HostRuntime,
+    noting: &'a R,
+    ready: ReadyFile<'a>,
+    refused: Option<ExitCode>,
+}
+
+impl<R: Log> TellsOpen for Readiness<'_, R> {
+    fn tell_open(&mut self) -> bool {
+        match self.ready.open(self.rt, self.noting) {
+            Ok(()) => true,
+            Err(status) => {
+                self.refused = Some(status);
+                false
+            }
+        }
+    }
+}
+
+/// Runs a Sentinel, and keeps its ready file while its port is open.
 fn run_ready<R, S: ConfStore + Drop + Send>(
     rt: HostRuntime,
     noting: &R,
@@ -295,11 +315,17 @@ fn run_ready<R, S: ConfStore + Drop + Send>(
 where
     R: Threads + Wait + Net + Clock + ReadsTimes + Log + Sync,
 {
-    if let Err(status) = ready.open(rt, noting) {
+    let mut readiness = Readiness {
+        rt,
+        noting,
+        ready,
+        refused: None,
+    };
+    let (left, ended) = watch.run_telling(noting, &mut readiness);
+    drop(left);
+    if let Some(status) = readiness.refused {
         return Err(Unwatched::Refused(status));
     }
-    let (left, ended) = watch.run(noting);
-    drop(left);
     ready.close(rt);
     match ended {
         Ok(()) => Ok(()),
@@ -313,14 +339,17 @@ pub(crate) fn watch<R>(rt: HostRuntime, noting: &R, words: &ArgMatches) -> Resul
 where
     R: Threads + Wait + Net + Clock + ReadsTimes + Log + Sync,
 {
-    let (file, lock) = match locked_file(rt, noting, words) {
+    let Ok(path) = ConfPath::of(rt, words.get_str("conf").unwrap_or("")) else {
+        return Err(Unwatched::Fault(GroupFault::NoMemory));
+    };
+    let (file, lock) = match locked_file(rt, noting, &path, words) {
         Ok(locked) => locked,
         Err(status) => return Err(Unwatched::Refused(status)),
     };
     let WatchFile { loaded, settings } = file;
-    let path = words.get_str("conf").unwrap_or("");
-    note_begin(rt, noting, path, loaded.conf(), loaded.text());
-    let ready = match ReadyFile::cleared(rt, noting, words.get_str("ready-file")) {
+    note_begin(rt, noting, path.named(), loaded.conf(), loaded.text());
+    let own = path.own().unwrap_or(path.named());
+    let ready = match ReadyFile::cleared(rt, noting, words.get_str("ready-file"), own) {
         Ok(ready) => ready,
         Err(status) => return Err(Unwatched::Refused(status)),
     };

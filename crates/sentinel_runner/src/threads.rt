@@ -93,6 +93,39 @@ where
     })
 }
 
+/// What a thread does between the start of the first parts and that of the later ones, which it is handed and gives back.
+pub(crate) trait Lead<C, R, T> {
+    /// Does that.
+    fn lead(&mut self, rt: &R, shared: &C, later: &mut [T]);
+}
+
+/// As `run_parts`, but the later parts begin once this thread has led up to them.
+pub(crate) fn run_led_parts<'a, C: Ending + Sync, T, O: Lead<C, R, T> + Work<C, R> + Drop, R>(
+    rt: &'a R,
+    shared: &'a C,
+    first: T,
+    mut later: Vec<T>,
+    mut own: O,
+)
+where
+    T: Work<C, R> + Drop + Send,
+    R: Threads + Wait + Sync,
+{
+    thread::scope(thread::scope_env(), rt, |scope| {
+        let mut refused = scope.spawn(move || first.work(rt, shared)).is_err();
+        if !refused {
+            own.lead(rt, shared, later.as_mut_slice());
+        }
+        for part in later {
+            refused |= scope.spawn(move || part.work(rt, shared)).is_err();
+        }
+        if refused {
+            return shared.end_for_want();
+        }
+        own.work(rt, shared);
+    })
+}
+
 /// Serves what a thread serves of a Sentinel's port until `ending` isn't 0. Then it is closed.
 pub(crate) fn serve_port<J: Which, S: ConfStore, R: Wait + Clock + ReadsTimes + Log>(
     rt: &R,

@@ -18,8 +18,8 @@ use crate::group_fault::GroupFault;
 use crate::loaded_conf::LoadedConf;
 use crate::opened::{Opened, OpenedWith, PortSettings, fault_of};
 use crate::threads::{
-    Ending, Part, Work, close, end_for_want, none_for_want, note_lost, parts_of, run_parts,
-    serve_port,
+    Ending, Lead, Part, Work, close, end_for_want, none_for_want, note_lost, parts_of,
+    run_led_parts, serve_port,
 };
 use client_port::{Admission, Port, PortAddress, PortRoom, ReadsTimes, Sockets, seats_beside};
 use crossbeam_channel::Receiver;
@@ -29,7 +29,7 @@ use sentinel_cell::Keeper;
 use sentinel_conf::{Conf, ConfStore, ConfText, rewrite_into};
 use sentinel_runtime::{GroupClock, RunState, RunningSentinel, ThreadSeat, Which};
 use std::alloc::{AllocError, Global};
-use std::io::ErrorKind;
+use std::io::{self, ErrorKind};
 use std::marker::Brand;
 use std::net::Net;
 use std::rt::Clock;
@@ -63,8 +63,35 @@ pub struct WatchSettings {
 #[derive(Drop)]
 struct Watching<S: ConfStore> {
     opened: Opened<S>,
+    entrance: Entrance,
     alloc: Global,
     ghost seats: { opened.beside ≡ BESIDE },
+}
+
+/// Where a port listens once it opens, and what is noted of it then: its number, and how many clients it was to have
+/// room for, where a file says so.
+#[derive(Drop)]
+struct Entrance {
+    addresses: Vec<PortAddress>,
+    number: u16,
+    wanted: Option<u16>,
+    admission: Admission,
+}
+
+/// Who is told that a port is open.
+pub trait TellsOpen {
+    /// The port is open, and clients are answered: whether the Sentinel goes on.
+    fn tell_open(&mut self) -> bool;
+}
+
+/// Nobody is told.
+#[derive(Clone, Copy)]
+struct Untold;
+
+impl TellsOpen for Untold {
+    fn tell_open(&mut self) -> bool {
+        true
+    }
 }
 
 /// A Sentinel that is open, with its port and its connections, before its threads run.
@@ -217,8 +244,8 @@ fn opened_of<S: ConfStore + Drop>(
 }
 
 impl<S: ConfStore + Drop> Watch<S> {
-    /// Opens the Sentinel of the conf that its store holds at clock 0, and its port; no connection is opened yet. What
-    /// the conf keeps is stored once its port is had, which is served after that: where the port can't be had the store
+    /// Opens the Sentinel of the conf that its store holds at clock 0; no connection is opened yet, and its port listens
+    /// once it runs. What the conf keeps is stored once it is known that the port can be had: where it can't the store
     /// is as it was.
     ///
     /// Each thread of the port wants the password of the settings, and the connections begin with the settings' logins.
@@ -255,30 +282,37 @@ impl<S: ConfStore + Drop> Watch<S> {
         let room = room_of(rt, alloc, &conf, port, &admission)?;
         let wanted = admission.limit;
         let admission = admission.within(room);
-        let sockets = sockets_of(rt, alloc, addresses.as_slice())?;
-        let ports = port_of(rt, alloc, sockets, room, &admission)?;
+        drop(sockets_of(rt, alloc, addresses.as_slice())?);
+        let ports = port_of(rt, alloc, Sockets::none(alloc), room, &admission)?;
         let number = conf.port();
+        let is_alone = conf.roster().sentinels().len() < 2;
         let opened = opened_of(alloc, conf, store, reboots, ports, room)?;
-        note_room(rt, number, wanted, &admission);
+        let entrance = Entrance {
+            addresses,
+            number,
+            wanted,
+            admission,
+        };
         let state = WatchState {
             run: RunState::new(GroupClock::start(rt)),
             turned: AtomicU64::new(0),
             stood: AtomicU64::new(0),
             ending: AtomicU64::new(0),
+            heard: AtomicU64::new(u64::from(is_alone)),
         };
         Ok(Watch {
-            watching: Watching { opened, alloc },
+            watching: Watching {
+                opened,
+                entrance,
+                alloc,
+            },
             wires,
             state,
         })
     }
 
-    /// Runs its threads until the Sentinel is halted; this thread has the connections. Then they have ended, and the
-    /// Sentinel is here with its store, as the history of its turns leaves them; where a thread couldn't hand its seat
-    /// back, both are gone.
-    ///
-    /// `Halted` where the store refused a text, whichever thread met that; `PortRefused` where the system doesn't tell
-    /// of the connections, and `NoMemory` where a thread or its room couldn't be made: `NotOneRoster` never comes.
+    /// Runs its threads until the Sentinel is halted; this thread has the connections. As `run_telling`, but nobody is
+    /// told that its port is open.
     pub fn run<R: Threads + Wait + Net + Clock + ReadsTimes + Log + Sync>(
         self,
         rt: &R,
@@ -289,12 +323,37 @@ impl<S: ConfStore + Drop> Watch<S> {
         ensures ok { OnOk result.1 (IsSome result.0) }
         ensures roster { IfErr result.1 (λ fault. fault ≢ NotOneRoster) }
     {
+        let mut untold = Untold;
+        self.run_telling(rt, &mut untold)
+    }
+
+    /// Runs its threads until the Sentinel is halted, or who is told that its port is open ends it; this thread has the
+    /// connections. The port opens once a hello of another Sentinel was taken, so that no client hears of an address
+    /// that a failover made an old one meanwhile; two seconds after the start it opens in any case, and at once where
+    /// the file names no other Sentinel. Then the threads have ended, and the
+    /// Sentinel is here with its store, as the history of its turns leaves them; where a thread couldn't hand its seat
+    /// back, both are gone.
+    ///
+    /// `Halted` where the store refused a text, whichever thread met that; `PortRefused` where the system doesn't tell
+    /// of the connections, and `NoMemory` where a thread or its room couldn't be made: `NotOneRoster` never comes.
+    pub fn run_telling<R, T: TellsOpen>(
+        self,
+        rt: &R,
+        told: &mut T,
+    ) -> (Option<Keeper<S>>, Result<(), GroupFault>)
+    where
+        S: Send,
+        R: Threads + Wait + Net + Clock + ReadsTimes + Log + Sync,
+        ensures left { IfSome result.0 (IsLeftByTurns (λ event. Unit {0}) S.held S.failure_count self.watching.opened.fresh.cell.start) }
+        ensures ok { OnOk result.1 (IsSome result.0) }
+        ensures roster { IfErr result.1 (λ fault. fault ≢ NotOneRoster) }
+    {
         let Watch {
             watching,
             wires,
             state,
         } = self;
-        let left = run_named::<Brand, S, R, R>(rt, rt, &state, watching, wires);
+        let left = run_named::<Brand, S, R, R, T>(rt, rt, &state, watching, wires, told);
         let ended = ended(&state.run, left.is_some());
         (left, ended)
     }
@@ -313,12 +372,13 @@ fn ended(state: &RunState, is_here: bool) -> Result<(), GroupFault>
 }
 
 /// Runs the threads of a Sentinel that has a name for proofs, by the sockets of the system, as `run_over` does.
-fn run_named<J: Which + Send + Sync, S: ConfStore + Drop + Send, R, N: Net>(
+fn run_named<J: Which + Send + Sync, S: ConfStore + Drop + Send, R, N: Net + Log, T: TellsOpen>(
     rt: &R,
     net: &N,
     state: &WatchState,
     watching: Watching<S>,
     wires: PlannedConnections,
+    told: &mut T,
 ) -> Option<Keeper<S>>
 where
     R: Threads + Wait + Clock + ReadsTimes + Log + Sync,
@@ -328,27 +388,87 @@ where
     requires told { (event : Event) → ∥ J.told event ∥₁ }
     ensures { IfSome result (IsLeftByTurns J.told S.held S.failure_count watching.opened.fresh.cell.start) }
 {
-    run_over::<J, S, NetSockets<'_, J, N>, R>(rt, NetSockets::of(net), state, watching, wires)
+    let Watching {
+        opened,
+        entrance,
+        alloc,
+    } = watching;
+    let doors = Doors {
+        net,
+        alloc,
+        entrance,
+        told,
+    };
+    run_over::<J, S, NetSockets<'_, J, N>, R, Doors<'_, N, T>>(
+        rt,
+        NetSockets::of(net),
+        state,
+        opened,
+        wires,
+        doors,
+    )
+}
+
+/// What a thread does once the Sentinel's port is to open.
+trait OpensPort {
+    /// Opens the port of which the first thread serves this, and tells it: whether the Sentinel goes on. The error is
+    /// the system's.
+    fn open(&mut self, port: &mut Port) -> io::Result<bool>;
+
+    /// With which memory.
+    fn alloc(&self) -> Global;
+}
+
+/// The entrance of a Sentinel's port, before it is open, by these sockets of the system.
+#[derive(Drop)]
+struct Doors<'a, N, T> {
+    net: &'a N,
+    alloc: Global,
+    entrance: Entrance,
+    told: &'a mut T,
+}
+
+impl<N: Net + Log, T: TellsOpen> OpensPort for Doors<'_, N, T> {
+    fn open(&mut self, port: &mut Port) -> io::Result<bool> {
+        let addresses = self.entrance.addresses.as_slice();
+        let sockets = Sockets::listen(self.net, self.alloc, addresses)?;
+        port.listen(sockets)?;
+        let Entrance {
+            number,
+            wanted,
+            admission,
+            ..
+        } = &self.entrance;
+        note_room(self.net, *number, *wanted, admission);
+        Ok(self.told.tell_open())
+    }
+
+    fn alloc(&self) -> Global {
+        self.alloc
+    }
 }
 
 /// Runs the threads of a Sentinel that has a name for proofs, until all have ended; this one has the connections, since
 /// a thread that is started gets no handle for sockets. What is left of it then; none where a thread or its room
 /// couldn't be made.
-fn run_over<J: Which + Send + Sync, S: ConfStore + Drop + Send, C: Connects<J> + Drop, R>(
+fn run_over<J: Which + Send + Sync, S: ConfStore + Drop + Send, C: Connects<J> + Drop, R, D>(
     rt: &R,
     sockets: C,
     state: &WatchState,
-    watching: Watching<S>,
+    opened: Opened<S>,
     wires: PlannedConnections,
+    doors: D,
 ) -> Option<Keeper<S>>
 where
     R: Threads + Wait + Clock + ReadsTimes + Log + Sync,
-    requires named { watching.opened.fresh.cell.id ≡ J.cell }
-    requires says { (message : Message) → IsReleased watching.opened.fresh.cell.start message → ∥ J.said message ∥₁ }
-    requires notes { (note : Note) (number : ℕ) → IsNoted watching.opened.fresh.cell.start note number → ∥ J.noted note number ∥₁ }
-    ensures { IfSome result (IsLeftByTurns J.told S.held S.failure_count watching.opened.fresh.cell.start) }
+    D: OpensPort + Drop,
+    requires seats { opened.beside ≡ BESIDE }
+    requires named { opened.fresh.cell.id ≡ J.cell }
+    requires says { (message : Message) → IsReleased opened.fresh.cell.start message → ∥ J.said message ∥₁ }
+    requires notes { (note : Note) (number : ℕ) → IsNoted opened.fresh.cell.start note number → ∥ J.noted note number ∥₁ }
+    ensures { IfSome result (IsLeftByTurns J.told S.held S.failure_count opened.fresh.cell.start) }
 {
-    let Watching { opened, alloc } = watching;
+    let alloc = doors.alloc();
     let Opened {
         fresh,
         place,
@@ -371,14 +491,18 @@ where
     };
     far.guard(&member);
     let ticks = TickLoop::new(alloc, &member, far, state.run.clock.now(rt));
-    let Ok((parts, back)) = watch_parts(alloc, &member, seat, ticks, (port, others)) else {
+    let Ok((mut parts, back)) = watch_parts(alloc, &member, seat, ticks, (port, others)) else {
         return none_for_want(&state.run, &state.ending);
     };
     let watch = WatchOf {
         member: &member,
         state,
     };
-    run_parts(rt, &watch, parts, wires);
+    if parts.is_empty() {
+        unreachable!()
+    }
+    let first = parts.remove(0);
+    run_led_parts(rt, &watch, first, parts, LedWires { wires, doors });
     close(rt, alloc, member, &back)
 }
 
@@ -406,6 +530,7 @@ fn watch_parts<J: Which, S: ConfStore>(
     ports: (Port, Vec<Port>),
 ) -> Result<(Vec<Part<J, WatchTask<J>>>, Receiver<ThreadSeat<J>>), AllocError>
     requires { seat.seat.view.share ≡ length ports.1.items + 1 + BESIDE }
+    ensures { IfOk result (λ r. length r.0.items ≡ length ports.1.items + 1 + BESIDE) }
 {
     let beside = vec![in alloc; WatchTask::Ticks(ticks)]?;
     parts_of(alloc, member, seat, beside, ports)
@@ -444,13 +569,56 @@ impl<J: Which, S: ConfStore, R: Wait + Clock + ReadsTimes + Log> Work<WatchOf<'_
     }
 }
 
-impl<J: Which, S: ConfStore, C: Connects<J> + Drop, R: Wait + Clock + Log> Work<
+/// The connections of a Sentinel, and its port before that is open.
+#[derive(Drop)]
+struct LedWires<J: Which, C: Connects<J>, D> {
+    wires: Connections<J, C>,
+    doors: D,
+}
+
+/// Ends the threads, where the system refused a port or no longer tells of connections.
+fn end_for(state: &WatchState, error: &io::Error) {
+    note_lost(&state.run, error);
+    state.ending.store(1, Ordering::SeqCst);
+}
+
+impl<J: Which, S: ConfStore, C: Connects<J> + Drop, D: OpensPort, R: Wait + Clock + Log> Lead<
     WatchOf<'_, J, S>,
     R,
-> for Connections<J, C> {
+    Part<J, WatchTask<J>>,
+> for LedWires<J, C, D> {
+    /// Serves the connections until the port is to open, and opens it.
+    fn lead(&mut self, rt: &R, watch: &WatchOf<'_, J, S>, later: &mut [Part<J, WatchTask<J>>]) {
+        if let Err(error) = self.wires.run_first(rt, watch.state) {
+            return end_for(watch.state, &error);
+        }
+        if watch.state.ending.load(Ordering::SeqCst) != 0 {
+            return;
+        }
+        let Some(
+            Part {
+                task: WatchTask::Port(port),
+                ..
+            },
+        ) = later.last_mut()
+        else {
+            return;
+        };
+        match self.doors.open(port) {
+            Ok(true) => {}
+            Ok(false) => watch.state.ending.store(1, Ordering::SeqCst),
+            Err(error) => end_for(watch.state, &error),
+        }
+    }
+}
+
+impl<J: Which, S: ConfStore, C: Connects<J> + Drop, D: Drop, R: Wait + Clock + Log> Work<
+    WatchOf<'_, J, S>,
+    R,
+> for LedWires<J, C, D> {
     /// Where the system no longer tells of them, that is noted.
     fn work(mut self, rt: &R, watch: &WatchOf<'_, J, S>) {
-        if let Err(error) = self.run(rt, watch.state) {
+        if let Err(error) = self.wires.run(rt, watch.state) {
             note_lost(&watch.state.run, &error);
         }
         watch.state.ending.store(1, Ordering::SeqCst);

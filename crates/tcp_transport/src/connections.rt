@@ -32,6 +32,9 @@ use std::time::Duration;
 /// How many connections the system tells of at once.
 const EVENTS: usize = 256;
 
+/// For how long after its start a Sentinel waits for a hello of another one before its port opens, in milliseconds.
+const FIRST_MS: u64 = 2_000;
+
 /// How many messages are put out before the connections are heard again.
 const MESSAGES_MAX: u32 = 1_024;
 
@@ -398,6 +401,25 @@ impl<J: Which, C: Connects<J>> Connections<J, C> {
         state.turned.store(now, Ordering::SeqCst);
         thread::sleep(rt, Duration::from_millis(REST_MS));
         Ok(())
+    }
+
+    /// As `run`, until the Sentinel took a hello of another one, or the clock is at `FIRST_MS`.
+    pub fn run_first<R: Wait + Clock + Log>(
+        &mut self,
+        rt: &R,
+        state: &WatchState,
+    ) -> io::Result<()> {
+        let mut pace = TickSchedule::new(state.run.clock.now(rt));
+        for _ in rt.forever() {
+            let has_ended = state.ending.load(Ordering::SeqCst) != 0;
+            let has_heard = state.heard.load(Ordering::SeqCst) != 0;
+            let is_late = state.run.clock.now(rt) >= FIRST_MS;
+            if has_ended || has_heard || is_late || state.run.has(RunFault::Halted) {
+                return Ok(());
+            }
+            self.turn(rt, state, &mut pace)?;
+        }
+        unreachable!()
     }
 
     /// Keeps the connections, hands on what they hear and puts out what is to go out, until the threads end or the

@@ -75,6 +75,7 @@ impl Seldom {
 #[derive(Drop)]
 pub(crate) struct HelloNotes {
     others: SilenceTimer,
+    has_heard: bool,
     stranger: Seldom,
     far: Seldom,
     far_request: Seldom,
@@ -144,6 +145,7 @@ impl HelloNotes {
     pub(crate) fn new(now: u64) -> HelloNotes {
         HelloNotes {
             others: SilenceTimer::new(now),
+            has_heard: false,
             stranger: Seldom::new(),
             far: Seldom::new(),
             far_request: Seldom::new(),
@@ -151,6 +153,11 @@ impl HelloNotes {
             unknown_addr: [Seldom::new(); SENTINELS_MAX],
             unknown_master: [Seldom::new(); SENTINELS_MAX],
         }
+    }
+
+    /// Whether a hello of another Sentinel was heard, since the start, which wasn't lost.
+    pub(crate) fn has_heard(&self) -> bool {
+        self.has_heard
     }
 
     /// Notes that hellos are heard again, where it was noted that none was.
@@ -202,6 +209,7 @@ impl HelloNotes {
                 return;
             }
         }
+        self.has_heard = true;
         self.hear_other(rt, by.now);
         self.hear_difference(rt, by, place, hello);
     }

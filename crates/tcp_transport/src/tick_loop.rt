@@ -201,6 +201,9 @@ impl<J: Which> TickLoop<J> {
             &mut outlet,
             (by.known, event),
         );
+        if self.hellos.has_heard() {
+            turns.state.heard.store(1, Ordering::SeqCst);
+        }
         self.hold(turns);
         goes_on
     }

@@ -1,6 +1,6 @@
 use Rattle.std.proofs.Common.{◌≡◌, ◌++◌, map, length}
 use Rattle.conf_check.specs.Change.ChangedRosters.{changed_master}
-use Rattle.conf_check.proofs.change.changed_rosters.changed_masters.Given as goal
+use Rattle.conf_check.proofs.change.changed_rosters.each_changed.Given as goal
 
 abbrev pub invariant-loop-rest : goal.invariant-loop-rest
 invariant-loop-rest l = map (changed_master l.change) l.masters ≡ l.list.items ++ map (changed_master l.change) l.rest
