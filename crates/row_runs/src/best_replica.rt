@@ -1,7 +1,7 @@
 //! The replicas among which one is chosen.
 
-use crate::given::{id, number, says};
-use crate::told::{Told, Unplayed};
+use crate::told::Unplayed;
+use crate::words::{Row, Words};
 use replica_choice::{Candidate, Limits, choose};
 use std::alloc::Global;
 
@@ -11,20 +11,17 @@ pub(crate) struct Replicas {
     known: Vec<Candidate>,
 }
 
-/// What these words tell of a replica.
-fn candidate(words: &[Vec<u8>]) -> Result<Candidate, Unplayed> {
-    let [state, priority, link, ping, info, offset, run_id] = words else {
-        return Err(Unplayed::WrongWords);
-    };
-    Ok(Candidate {
-        sdown: says(state, "down", "up")?,
-        priority: number(priority)?,
-        link_down_s: number(link)?,
-        last_ping: Some(number(ping)?),
-        last_info: Some(number(info)?),
-        offset: number(offset)?,
-        id: Some(id(run_id)?),
-    })
+/// What the next words tell of a replica.
+fn candidate(words: &mut Words<'_>) -> Candidate {
+    Candidate {
+        sdown: words.says("down", "up"),
+        priority: words.number(),
+        link_down_s: words.number(),
+        last_ping: Some(words.number()),
+        last_info: Some(words.number()),
+        offset: words.number(),
+        id: Some(words.id()),
+    }
 }
 
 impl Replicas {
@@ -35,31 +32,33 @@ impl Replicas {
         }
     }
 
+    /// The place of the replica that is chosen at a moment, after so many milliseconds without a reply, from a master
+    /// that has been down for so many.
+    fn chosen(&self, words: &mut Words<'_>) -> Option<usize> {
+        let now = words.number();
+        let limits = Limits {
+            after_ms: words.number(),
+            master_down_ms: words.number(),
+        };
+        choose(&self.known, now, limits)
+    }
+
     /// Tells what comes of a call with these words.
-    pub(crate) fn play(
-        &mut self,
-        call: &str,
-        words: &[Vec<u8>],
-        told: &mut Told,
-    ) -> Result<(), Unplayed> {
-        match (call, words) {
-            ("replicas", []) => {
+    pub(crate) fn play(&mut self, row: &mut Row<'_>) -> Result<(), Unplayed> {
+        match row.call {
+            "replicas" => {
                 self.known.clear();
-                told.ok()
+                row.told.ok();
             }
-            ("replica", words) => {
-                self.known.push(candidate(words)?)?;
-                told.ok()
+            "replica" => {
+                self.known.push(candidate(&mut row.words))?;
+                row.told.ok();
             }
-            ("choose", [now, after, down]) => {
-                let limits = Limits {
-                    after_ms: number(after)?,
-                    master_down_ms: number(down)?,
-                };
-                let place = choose(&self.known, number(now)?, limits);
-                told.maybe_number(place.map(|place| place as u64))
-            }
-            _ => Err(Unplayed::NoSuchCall),
+            "choose" => row
+                .told
+                .maybe_number(self.chosen(&mut row.words).map(|place| place as u64)),
+            _ => return Err(Unplayed::NoSuchCall),
         }
+        Ok(())
     }
 }

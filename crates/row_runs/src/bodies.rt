@@ -5,8 +5,8 @@ ghost use Rattle.ballot_law.specs.Hellos.{IsHello};
 ghost use Rattle.node_texts.specs.Messages.MessageTexts.{IsWritable};
 ghost use Rattle.ballot_law.specs.Limits.{AnswersWithin, HasEpochWithin, IsWithinBody};
 
-use crate::given::{addr, maybe_addr, maybe_id, number, number_16, says, text};
 use crate::told::Unplayed;
+use crate::words::Words;
 use crate::writable::is_line;
 use crate::{infos, roles};
 use ballot_law::{Body, Card, Hello, MAX_EPOCH, Name, Role, ShortText, Shown, ShownList, Text};
@@ -14,67 +14,59 @@ use node_texts::{read_hello, read_info};
 use std::alloc::Global;
 
 /// A question about a master: its number and address, the epoch, and the candidate.
-fn ask(words: &[Vec<u8>]) -> Result<Body, Unplayed>
+fn ask(words: &mut Words<'_>) -> Result<Body, Unplayed>
     ensures within { IfOk result IsWithinBody }
     ensures epochs { IfOk result AnswersWithin }
     ensures writable { IfOk result IsWritable }
 {
-    let [master, about, epoch, candidate] = words else {
-        return Err(Unplayed::WrongWords);
-    };
-    let epoch = number(epoch)?;
+    let (master, addr) = (words.number_16(), words.addr());
+    let epoch = words.number();
     if epoch > MAX_EPOCH {
         return Err(Unplayed::OutOfRange);
     }
     Ok(Body::Ask {
-        master: number_16(master)?,
-        addr: addr(about)?,
+        master,
+        addr,
         epoch,
-        candidate: maybe_id(candidate)?,
+        candidate: words.maybe_id(),
     })
 }
 
 /// The answer to it: the number and address of the master, whether it is down, the vote and its epoch.
-fn answer(words: &[Vec<u8>]) -> Result<Body, Unplayed>
+fn answer(words: &mut Words<'_>) -> Result<Body, Unplayed>
     ensures within { IfOk result IsWithinBody }
     ensures epochs { IfOk result AnswersWithin }
     ensures writable { IfOk result IsWritable }
 {
-    let [master, about, down, leader, epoch] = words else {
-        return Err(Unplayed::WrongWords);
-    };
-    let epoch = number(epoch)?;
+    let (master, addr) = (words.number_16(), words.addr());
+    let (down, leader) = (words.says("down", "up"), words.maybe_id());
+    let epoch = words.number();
     if epoch > MAX_EPOCH {
         return Err(Unplayed::OutOfRange);
     }
     Ok(Body::Answer {
-        master: number_16(master)?,
-        addr: addr(about)?,
-        down: says(down, "down", "up")?,
-        leader: maybe_id(leader)?,
+        master,
+        addr,
+        down,
+        leader,
         epoch,
     })
 }
 
 /// The answer to a PING, which begins with `+` or `-`.
-fn ping_text(word: &[u8]) -> Result<Body, Unplayed>
+fn ping_text(words: &mut Words<'_>) -> Result<Body, Unplayed>
     ensures within { IfOk result IsWithinBody }
     ensures epochs { IfOk result AnswersWithin }
     ensures writable { IfOk result IsWritable }
 {
-    let [mark, line @ ..] = word else {
-        return Err(Unplayed::WrongWords);
-    };
+    let (is_error, line) = words.signed();
     let Some(text) = ShortText::from_slice(line) else {
         return Err(Unplayed::WrongWords);
     };
     if !is_line(text.as_slice()) {
         return Err(Unplayed::OutOfRange);
     }
-    Ok(Body::PingText {
-        is_error: says(&[*mark], "-", "+")?,
-        text,
-    })
+    Ok(Body::PingText { is_error, text })
 }
 
 /// The INFO of these bytes.
@@ -100,33 +92,31 @@ fn hello(bytes: &[u8]) -> Result<Hello, Unplayed>
 }
 
 /// The configuration of a master with a number: its epoch and address.
-fn shown(words: &[Vec<u8>]) -> Result<Shown, Unplayed>
+fn shown(words: &mut Words<'_>) -> Result<Shown, Unplayed>
     ensures { IfOk result HasEpochWithin }
 {
-    let [master, epoch, at] = words else {
-        return Err(Unplayed::WrongWords);
-    };
-    let epoch = number(epoch)?;
+    let (master, epoch) = (words.number_16(), words.number());
     if epoch > MAX_EPOCH {
         return Err(Unplayed::OutOfRange);
     }
     Ok(Shown {
-        master: number_16(master)?,
+        master,
         card: Card {
             epoch,
-            addr: addr(at)?,
+            addr: words.addr(),
         },
     })
 }
 
 /// The answer of a port with these bytes, which shows no configuration or one.
-fn port_reply(alloc: Global, bytes: &[u8], words: &[Vec<u8>]) -> Result<Body, Unplayed>
+fn port_reply(alloc: Global, words: &mut Words<'_>) -> Result<Body, Unplayed>
     ensures within { IfOk result IsWithinBody }
     ensures epochs { IfOk result AnswersWithin }
     ensures writable { IfOk result IsWritable }
 {
+    let bytes = words.bytes();
     let mut list = Vec::new(alloc);
-    if !words.is_empty() {
+    if words.count() > 0 {
         list.push(shown(words)?)?;
     }
     Ok(Body::PortReply {
@@ -136,20 +126,20 @@ fn port_reply(alloc: Global, bytes: &[u8], words: &[Vec<u8>]) -> Result<Body, Un
 }
 
 /// The role of a master, or of a replica of the one at an address, with an offset.
-fn role(words: &[Vec<u8>]) -> Result<Body, Unplayed>
+fn role(words: &mut Words<'_>) -> Result<Body, Unplayed>
     ensures within { IfOk result IsWithinBody }
     ensures epochs { IfOk result AnswersWithin }
     ensures writable { IfOk result IsWritable }
 {
-    let role = match words {
-        [offset] => Role::Master {
-            offset: number(offset)?,
-        },
-        [at, offset] => Role::Replica {
-            addr: addr(at)?,
-            offset: number(offset)?,
-        },
-        _ => return Err(Unplayed::WrongWords),
+    let role = if words.count() > 1 {
+        Role::Replica {
+            addr: words.addr(),
+            offset: words.number(),
+        }
+    } else {
+        Role::Master {
+            offset: words.number(),
+        }
     };
     if !roles::can_be_written(&role) {
         return Err(Unplayed::OutOfRange);
@@ -157,35 +147,64 @@ fn role(words: &[Vec<u8>]) -> Result<Body, Unplayed>
     Ok(Body::RoleText(role))
 }
 
-/// What a message says: the kind of it, and what goes with that.
-pub(crate) fn body(alloc: Global, words: &[Vec<u8>]) -> Result<Body, Unplayed>
+/// A client's question for the address of the master with this name.
+fn address_ask(name: &[u8]) -> Result<Body, Unplayed>
     ensures within { IfOk result IsWithinBody }
     ensures epochs { IfOk result AnswersWithin }
     ensures writable { IfOk result IsWritable }
 {
-    let [kind, words @ ..] = words else {
-        return Err(Unplayed::WrongWords);
-    };
-    match (text(kind)?, words) {
-        ("Ask", words) => ask(words),
-        ("Answer", words) => answer(words),
-        ("Ping", []) => Ok(Body::Ping),
-        ("PingText", [line]) => ping_text(line),
-        ("InfoAsk", []) => Ok(Body::InfoAsk),
-        ("InfoText", [bytes]) => info(bytes),
-        ("Publish", [bytes]) => Ok(Body::Publish(hello(bytes)?)),
-        ("HelloText", [bytes]) => Ok(Body::HelloText(hello(bytes)?)),
-        ("ReplicaOf", [master]) => Ok(Body::ReplicaOf(maybe_addr(master)?)),
-        ("AddressAsk", [name]) => match Name::from_slice(name) {
-            Some(name) => Ok(Body::AddressAsk(name)),
-            None => Err(Unplayed::WrongWords),
-        },
-        ("AddressAnswer", []) => Ok(Body::AddressAnswer(None)),
-        ("AddressAnswer", words) => Ok(Body::AddressAnswer(Some(shown(words)?))),
-        ("PortReply", [bytes, words @ ..]) => port_reply(alloc, bytes, words),
-        ("RoleAsk", []) => Ok(Body::RoleAsk),
-        ("RoleText", words) => role(words),
-        ("Done", []) => Ok(Body::Done),
+    match Name::from_slice(name) {
+        Some(name) => Ok(Body::AddressAsk(name)),
+        None => Err(Unplayed::WrongWords),
+    }
+}
+
+/// The answer to a client's question for an address: a configuration, or none.
+fn address_answer(words: &mut Words<'_>) -> Result<Body, Unplayed>
+    ensures within { IfOk result IsWithinBody }
+    ensures epochs { IfOk result AnswersWithin }
+    ensures writable { IfOk result IsWritable }
+{
+    if words.count() == 0 {
+        return Ok(Body::AddressAnswer(None));
+    }
+    Ok(Body::AddressAnswer(Some(shown(words)?)))
+}
+
+/// What a message says that is no question: the kind of it, and what goes with that.
+fn answering(alloc: Global, kind: &str, words: &mut Words<'_>) -> Result<Body, Unplayed>
+    ensures within { IfOk result IsWithinBody }
+    ensures epochs { IfOk result AnswersWithin }
+    ensures writable { IfOk result IsWritable }
+{
+    match kind {
+        "Answer" => answer(words),
+        "PingText" => ping_text(words),
+        "InfoText" => info(words.bytes()),
+        "HelloText" => Ok(Body::HelloText(hello(words.bytes())?)),
+        "AddressAnswer" => address_answer(words),
+        "PortReply" => port_reply(alloc, words),
+        "RoleText" => role(words),
+        "Done" => Ok(Body::Done),
         _ => Err(Unplayed::WrongWords),
+    }
+}
+
+/// What a message says: the kind of it, and what goes with that.
+pub(crate) fn body(alloc: Global, words: &mut Words<'_>) -> Result<Body, Unplayed>
+    ensures within { IfOk result IsWithinBody }
+    ensures epochs { IfOk result AnswersWithin }
+    ensures writable { IfOk result IsWritable }
+{
+    let kind = words.text();
+    match kind {
+        "Ask" => ask(words),
+        "Ping" => Ok(Body::Ping),
+        "InfoAsk" => Ok(Body::InfoAsk),
+        "Publish" => Ok(Body::Publish(hello(words.bytes())?)),
+        "ReplicaOf" => Ok(Body::ReplicaOf(words.maybe_addr())),
+        "AddressAsk" => address_ask(words.bytes()),
+        "RoleAsk" => Ok(Body::RoleAsk),
+        _ => answering(alloc, kind, words),
     }
 }

@@ -1,8 +1,8 @@
 //! Streams that come in pieces, and readers and writers that fail.
 
-use crate::given::{number, says, text};
 use crate::sentinels::Lone;
 use crate::told::{Told, Unplayed};
+use crate::words::{Row, Words};
 use sentinel_core::{ServeFault, Served};
 use std::alloc::Global;
 use std::io::{self, Cursor, ErrorKind, Read, Write};
@@ -122,19 +122,32 @@ pub(crate) struct BrokenStreams {
     ends: Vec<End>,
 }
 
-/// The number of bytes that a word is.
-fn count(word: &[u8]) -> Result<usize, Unplayed> {
-    Ok(number(word)? as usize)
+/// The kind of error that the next word names; none for `nothing`.
+fn fault(words: &mut Words<'_>) -> Option<ErrorKind> {
+    match words.text() {
+        "StorageFull" => Some(ErrorKind::StorageFull),
+        "BrokenPipe" => Some(ErrorKind::BrokenPipe),
+        "nothing" => None,
+        _ => {
+            words.wrong();
+            None
+        }
+    }
 }
 
-/// The kind of error that a word names; none for `nothing`.
-fn fault(word: &[u8]) -> Result<Option<ErrorKind>, Unplayed> {
-    match text(word)? {
-        "StorageFull" => Ok(Some(ErrorKind::StorageFull)),
-        "BrokenPipe" => Ok(Some(ErrorKind::BrokenPipe)),
-        "nothing" => Ok(None),
-        _ => Err(Unplayed::WrongWords),
-    }
+/// How a stream is served, again and again, each time after another number of bytes.
+#[derive(Clone, Copy)]
+enum Way {
+    /// It comes in two parts.
+    Cut,
+    /// It comes in pieces of this size.
+    Pieces(usize),
+    /// It comes in pieces of this size, and a read fails.
+    ReadFails(usize),
+    /// A read and a write are interrupted.
+    Interrupted,
+    /// It comes in pieces of the first size, and a write of as many bytes as the second fails so.
+    WriteFails(usize, usize, Option<ErrorKind>),
 }
 
 impl BrokenStreams {
@@ -170,7 +183,7 @@ impl BrokenStreams {
             return Err(Unplayed::OutOfRange);
         }
         match written.strip_prefix(self.answers.as_slice()) {
-            Some(answer) => told.bytes(answer)?,
+            Some(answer) => told.bytes(answer),
             None => return Err(Unplayed::Changed),
         }
         self.answers = written;
@@ -281,58 +294,61 @@ impl BrokenStreams {
         }
     }
 
-    /// How a stream is served after this number of bytes, by a call with these words.
-    fn trial(&self, call: &str, words: &[Vec<u8>], left: usize) -> Result<Trial, Unplayed> {
-        match (call, words) {
-            ("each_cut", []) => Ok(self.read_whole(Breach { left, ..WHOLE })),
-            ("in_pieces", [size]) => Ok(self.read_whole(Breach {
-                size: count(size)?,
-                ..WHOLE
-            })),
-            ("each_read_fails", [size]) => Ok(self.read_failed(count(size)?, left)),
-            ("each_interruption", []) => Ok(self.interrupted(left)),
-            ("each_write_fails", [read, size, kind]) => Ok(self.write_failed(
-                count(read)?,
-                Breach {
-                    size: count(size)?,
-                    left,
-                    fault: fault(kind)?,
-                },
-            )),
-            ("each_room", [kind]) => {
-                let fault = fault(kind)?;
-                Ok(self.write_failed(
-                    usize::MAX,
-                    Breach {
-                        left,
-                        fault,
-                        ..WHOLE
-                    },
-                ))
+    /// How a stream is served this way after this number of bytes.
+    fn trial(&self, way: Way, left: usize) -> Trial {
+        match way {
+            Way::Cut => self.read_whole(Breach { left, ..WHOLE }),
+            Way::Pieces(size) => self.read_whole(Breach { size, ..WHOLE }),
+            Way::ReadFails(size) => self.read_failed(size, left),
+            Way::Interrupted => self.interrupted(left),
+            Way::WriteFails(read, size, fault) => {
+                self.write_failed(read, Breach { size, left, fault })
             }
-            _ => Err(Unplayed::NoSuchCall),
         }
     }
 
-    /// Serves the stream in each way of a call, after each number of bytes, up to a place. Tells how many these were,
-    /// or the first that isn't served so.
-    fn try_each(
-        &self,
-        call: &str,
-        words: &[Vec<u8>],
-        step: usize,
-        end: usize,
-        told: &mut Told,
-    ) -> Result<(), Unplayed> {
+    /// Serves the stream this way after each number of bytes, up to a place. Tells how many these were, or the first
+    /// that isn't served so.
+    fn try_each(&self, way: Way, step: usize, end: usize, told: &mut Told) -> Result<(), Unplayed> {
         let mut tried: u64 = 0;
         for left in (0..end).step_by(step.max(1)) {
-            if !self.stands(&self.trial(call, words, left)?)? {
-                told.word("otherwise-behind")?;
-                return told.number(left as u64);
+            if !self.stands(&self.trial(way, left))? {
+                told.word("otherwise-behind");
+                told.number(left as u64);
+                return Ok(());
             }
             tried = tried.saturating_add(1);
         }
-        told.number(tried)
+        told.number(tried);
+        Ok(())
+    }
+
+    /// Serves the stream in the way of a call with these words.
+    fn try_way(&self, row: &mut Row<'_>) -> Result<(), Unplayed> {
+        let (asks, answers) = (self.asks.len(), self.answers.len());
+        let (way, step, end) = match row.call {
+            "each_cut" => (Way::Cut, 1, asks),
+            "in_pieces" => (Way::Pieces(row.words.size()), 1, 1),
+            "each_read_fails" => {
+                let size = row.words.size();
+                (Way::ReadFails(size), size, asks.saturating_add(size))
+            }
+            "each_interruption" => (Way::Interrupted, 1, asks.saturating_add(1)),
+            "each_write_fails" => {
+                let (read, size) = (row.words.size(), row.words.size());
+                (
+                    Way::WriteFails(read, size, fault(&mut row.words)),
+                    size,
+                    answers,
+                )
+            }
+            "each_room" => {
+                let fault = fault(&mut row.words);
+                (Way::WriteFails(usize::MAX, usize::MAX, fault), 1, answers)
+            }
+            _ => return Err(Unplayed::NoSuchCall),
+        };
+        self.try_each(way, step, end, &mut row.told)
     }
 
     /// Tells how a stream without bytes is served whose reader is interrupted this number of times, and how many reads
@@ -345,42 +361,25 @@ impl BrokenStreams {
         };
         let mut written = Vec::new(self.alloc);
         match lone.serve(0, &mut reader, &mut written)? {
-            Ok(served) => told.number(served.answers)?,
+            Ok(served) => told.number(served.answers),
             Err(ServeFault::NoMemory) => return Err(Unplayed::NoMemory),
-            Err(fault) => told.shown(&fault)?,
+            Err(fault) => told.shown(&fault),
         }
-        told.number(reader.reads)
+        told.number(reader.reads);
+        Ok(())
     }
 
     /// Tells what comes of a call with these words.
-    pub(crate) fn play(
-        &mut self,
-        call: &str,
-        words: &[Vec<u8>],
-        told: &mut Told,
-    ) -> Result<(), Unplayed> {
-        let (asks, answers) = (self.asks.len(), self.answers.len());
-        match (call, words) {
-            ("conf", [conf, times]) => {
-                self.begin(conf, says(times, "twice", "once")?)?;
-                told.ok()
+    pub(crate) fn play(&mut self, row: &mut Row<'_>) -> Result<(), Unplayed> {
+        match row.call {
+            "conf" => {
+                self.begin(row.words.bytes(), row.words.says("twice", "once"))?;
+                row.told.ok();
+                Ok(())
             }
-            ("exchange", [ask]) => self.exchange(ask, told),
-            ("each_cut", []) => self.try_each(call, words, 1, asks, told),
-            ("in_pieces", [_]) => self.try_each(call, words, 1, 1, told),
-            ("each_read_fails", [size]) => {
-                let size = count(size)?;
-                self.try_each(call, words, size, asks.saturating_add(size), told)
-            }
-            ("each_interruption", []) => {
-                self.try_each(call, words, 1, asks.saturating_add(1), told)
-            }
-            ("each_write_fails", [_, size, _]) => {
-                self.try_each(call, words, count(size)?, answers, told)
-            }
-            ("each_room", [_]) => self.try_each(call, words, 1, answers, told),
-            ("interrupted", [times]) => self.tell_interrupted(number(times)?, told),
-            _ => Err(Unplayed::NoSuchCall),
+            "exchange" => self.exchange(row.words.bytes(), &mut row.told),
+            "interrupted" => self.tell_interrupted(row.words.number(), &mut row.told),
+            _ => self.try_way(row),
         }
     }
 }

@@ -2,6 +2,7 @@
 
 use crate::commands::array;
 use crate::told::{Told, Unplayed};
+use crate::words::{Row, Words};
 use pubsub::{Channel, Event, Subscriptions, Turn, is_match};
 use resp2::OutText;
 use std::alloc::Global;
@@ -33,116 +34,103 @@ const CHANNELS: [Channel; 23] = [
     Channel::TiltExited,
 ];
 
-/// The words up to the first `/`, and those after it.
-fn first_command(words: &[Vec<u8>]) -> (&[Vec<u8>], &[Vec<u8>]) {
-    let end = words
-        .iter()
-        .position(|word| word.as_slice() == b"/".as_slice());
-    let Some(end) = end else {
-        return (words, &[]);
-    };
-    let (command, rest) = words.split_at(end);
-    match rest.split_first() {
-        Some((_, more)) => (command, more),
-        None => (command, &[]),
-    }
-}
-
-/// Has a connection send commands, with a `/` between two, and tells what becomes of each.
+/// Has a connection send the commands that all words are that are left, with a `/` between two, and tells what becomes
+/// of each.
 fn send(
     alloc: Global,
     held: &mut Subscriptions,
-    words: &[Vec<u8>],
+    words: &mut Words<'_>,
     told: &mut Told,
 ) -> Result<(), Unplayed> {
     let mut out = OutText::new(alloc);
-    let mut rest = words;
-    for _ in 0..words.len() {
-        if rest.is_empty() {
+    for _ in 0..words.count() {
+        if words.count() == 0 {
             return Ok(());
         }
-        let (command, more) = first_command(rest);
-        match held.answer(&array(alloc, command)?, &mut out)? {
-            Turn::Said => told.bytes(out.as_slice())?,
-            Turn::Other => told.word("other")?,
+        match held.answer(&array(alloc, words.up_to("/"))?, &mut out)? {
+            Turn::Said => told.bytes(out.as_slice()),
+            Turn::Other => told.word("other"),
         }
-        rest = more;
     }
     Ok(())
 }
 
-/// Tells what a connection that sent these commands is told of a text on a channel.
-fn tell(
-    alloc: Global,
-    channel: &[u8],
-    text: &[u8],
-    words: &[Vec<u8>],
-    told: &mut Told,
-) -> Result<(), Unplayed> {
-    let mut held = Subscriptions::new(alloc);
-    send(alloc, &mut held, words, &mut Told::new(alloc))?;
-    let mut out = OutText::new(alloc);
+/// A connection that sent the commands that all words are that are left.
+fn listener(row: &mut Row<'_>) -> Result<Subscriptions, Unplayed> {
+    let mut held = Subscriptions::new(row.alloc);
+    send(
+        row.alloc,
+        &mut held,
+        &mut row.words,
+        &mut Told::new(row.alloc),
+    )?;
+    Ok(held)
+}
+
+/// Tells what a connection is told of a text on a channel that sent the commands after these.
+fn tell(row: &mut Row<'_>) -> Result<(), Unplayed> {
+    let (channel, text) = (row.words.bytes(), row.words.bytes());
+    let held = listener(row)?;
+    let mut out = OutText::new(row.alloc);
     held.tell(channel, text, &mut out)?;
-    told.bytes(out.as_slice())
+    row.told.bytes(out.as_slice());
+    Ok(())
 }
 
 /// Tells to how many channels and patterns a connection that sent these commands listens, and what they are.
-fn tell_held(alloc: Global, words: &[Vec<u8>], told: &mut Told) -> Result<(), Unplayed> {
-    let mut held = Subscriptions::new(alloc);
-    send(alloc, &mut held, words, &mut Told::new(alloc))?;
-    told.yes(held.is_listening())?;
-    told.number(held.count() as u64)?;
+fn tell_held(row: &mut Row<'_>) -> Result<(), Unplayed> {
+    let held = listener(row)?;
+    row.told.yes(held.is_listening());
+    row.told.number(held.count() as u64);
     for name in held.channels() {
-        told.bytes(name.as_slice())?;
+        row.told.bytes(name.as_slice());
     }
     for name in held.patterns() {
-        told.bytes(name.as_slice())?;
+        row.told.bytes(name.as_slice());
     }
     Ok(())
 }
 
-/// Tells what a connection is told of each event with this text that listens to this pattern.
-fn tell_events(
-    alloc: Global,
-    text: &[u8],
-    words: &[Vec<u8>],
-    told: &mut Told,
-) -> Result<(), Unplayed> {
-    let mut held = Subscriptions::new(alloc);
-    send(alloc, &mut held, words, &mut Told::new(alloc))?;
+/// Tells what a connection is told of each event with the text that is the first word.
+fn tell_events(row: &mut Row<'_>) -> Result<(), Unplayed> {
+    let text = row.words.bytes();
+    let held = listener(row)?;
     for channel in CHANNELS {
         let event = Event {
             channel,
-            text: ballot_law::Text::from_slice(alloc, text)?,
+            text: ballot_law::Text::from_slice(row.alloc, text)?,
         };
-        let mut out = OutText::new(alloc);
+        let mut out = OutText::new(row.alloc);
         held.tell_event(&event, &mut out)?;
-        told.bytes(out.as_slice())?;
+        row.told.bytes(out.as_slice());
     }
     Ok(())
+}
+
+/// Tells what becomes of the commands of a connection.
+fn tell_sent(row: &mut Row<'_>) -> Result<(), Unplayed> {
+    let mut held = Subscriptions::new(row.alloc);
+    send(row.alloc, &mut held, &mut row.words, &mut row.told)
 }
 
 /// Tells whether each text matches the pattern.
-fn tell_matches(pattern: &[u8], texts: &[Vec<u8>], told: &mut Told) -> Result<(), Unplayed> {
+fn tell_matches(pattern: &[u8], texts: &[Vec<u8>], told: &mut Told) {
     for text in texts {
-        told.yes(is_match(pattern, text.as_slice()))?;
+        told.yes(is_match(pattern, text.as_slice()));
     }
-    Ok(())
 }
 
 /// Tells what comes of a call with these words.
-pub(crate) fn play(
-    alloc: Global,
-    call: &str,
-    words: &[Vec<u8>],
-    told: &mut Told,
-) -> Result<(), Unplayed> {
-    match (call, words) {
-        ("send", words) => send(alloc, &mut Subscriptions::new(alloc), words, told),
-        ("held", words) => tell_held(alloc, words, told),
-        ("told", [channel, text, words @ ..]) => tell(alloc, channel, text, words, told),
-        ("events", [text, words @ ..]) => tell_events(alloc, text, words, told),
-        ("matches", [pattern, texts @ ..]) => tell_matches(pattern, texts, told),
+pub(crate) fn play(row: &mut Row<'_>) -> Result<(), Unplayed> {
+    match row.call {
+        "send" => tell_sent(row),
+        "held" => tell_held(row),
+        "told" => tell(row),
+        "events" => tell_events(row),
+        "matches" => {
+            tell_matches(row.words.bytes(), row.words.rest(), &mut row.told);
+            Ok(())
+        }
         _ => Err(Unplayed::NoSuchCall),
     }
 }

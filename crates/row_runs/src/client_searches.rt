@@ -1,7 +1,7 @@
 //! A client's search for a master.
 
-use crate::given::{addr, number, says};
 use crate::told::{Told, Unplayed};
+use crate::words::{Row, Words};
 use ballot_law::Addr;
 use client_queries::{Move, Quest, QuestFault};
 use std::alloc::Global;
@@ -14,13 +14,13 @@ pub(crate) struct Searches {
 }
 
 /// Tells a move; a Sentinel that is asked by its place in the list and its address.
-fn tell_move(quest: &Quest, told: &mut Told) -> Result<(), Unplayed> {
+fn tell_move(quest: &Quest, told: &mut Told) {
     let (name, addr) = match quest.next_move() {
         Move::Ask(place) => {
-            told.word("ask")?;
-            told.number(place as u64)?;
-            let addr = quest.at(place).ok_or(Unplayed::OutOfRange)?;
-            return told.address(addr);
+            told.word("ask");
+            told.number(place as u64);
+            told.maybe_address(quest.at(place));
+            return;
         }
         Move::Connect(addr) => ("connect", Some(addr)),
         Move::CheckRole(addr) => ("check", Some(addr)),
@@ -28,29 +28,30 @@ fn tell_move(quest: &Quest, told: &mut Told) -> Result<(), Unplayed> {
         Move::NoSentinel => ("no-sentinel", None),
         Move::Done(addr) => ("done", Some(addr)),
     };
-    told.word(name)?;
-    match addr {
-        Some(addr) => told.address(addr),
-        None => Ok(()),
+    told.word(name);
+    if let Some(addr) = addr {
+        told.address(addr);
     }
 }
 
+/// Has as many calls fail as the next word says: whether the last one can.
+fn fail_times(quest: &mut Quest, words: &mut Words<'_>) -> bool {
+    let mut fits = true;
+    for _ in 0..words.number() {
+        fits = quest.failed();
+    }
+    fits
+}
+
 /// Has the search hear what came of its last move: whether that can come of it.
-fn hear(quest: &mut Quest, call: &str, words: &[Vec<u8>]) -> Result<bool, Unplayed> {
-    match (call, words) {
-        ("answered", [word]) if word.as_slice() == b"None".as_slice() => Ok(quest.answered(None)),
-        ("answered", [word]) => Ok(quest.answered(Some(addr(word)?))),
-        ("connected", []) => Ok(quest.connected()),
-        ("failed", []) => Ok(quest.failed()),
-        ("failed_times", [times]) => {
-            let mut fits = true;
-            for _ in 0..number(times)? {
-                fits = quest.failed();
-            }
-            Ok(fits)
-        }
-        ("role", [word]) => Ok(quest.role_was(says(word, "master", "slave")?)),
-        ("waited", []) => Ok(quest.waited()),
+fn hear(quest: &mut Quest, call: &str, words: &mut Words<'_>) -> Result<bool, Unplayed> {
+    match call {
+        "answered" => Ok(quest.answered(words.maybe_addr())),
+        "connected" => Ok(quest.connected()),
+        "failed" => Ok(quest.failed()),
+        "failed_times" => Ok(fail_times(quest, words)),
+        "role" => Ok(quest.role_was(words.says("master", "slave"))),
+        "waited" => Ok(quest.waited()),
         _ => Err(Unplayed::NoSuchCall),
     }
 }
@@ -65,43 +66,51 @@ impl Searches {
     fn begin(&mut self, list: &[Addr], told: &mut Told) -> Result<(), Unplayed> {
         match Quest::new(self.alloc, list) {
             Ok(quest) => {
-                tell_move(&quest, told)?;
+                tell_move(&quest, told);
                 self.quest = Some(quest);
-                Ok(())
             }
             Err(QuestFault::Empty) => told.word("Empty"),
             Err(QuestFault::TooMany) => told.word("TooMany"),
-            Err(QuestFault::NoMemory) => Err(Unplayed::NoMemory),
+            Err(QuestFault::NoMemory) => return Err(Unplayed::NoMemory),
         }
+        Ok(())
+    }
+
+    /// A search begins over the Sentinels at the addresses that the words are.
+    fn search(&mut self, row: &mut Row<'_>) -> Result<(), Unplayed> {
+        let mut list = Vec::new(self.alloc);
+        for _ in 0..row.words.count() {
+            list.push(row.words.addr())?;
+        }
+        self.begin(&list, &mut row.told)
+    }
+
+    /// A search begins over as many Sentinels as the first word says, all at the address that is the second.
+    fn search_alike(&mut self, row: &mut Row<'_>) -> Result<(), Unplayed> {
+        let (count, addr) = (row.words.number(), row.words.addr());
+        let mut list = Vec::new(self.alloc);
+        for _ in 0..count {
+            list.push(addr)?;
+        }
+        self.begin(&list, &mut row.told)
+    }
+
+    /// Goes on with the search that has begun.
+    fn go_on(&mut self, row: &mut Row<'_>) -> Result<(), Unplayed> {
+        let quest = self.quest.as_mut().ok_or(Unplayed::OutOfRange)?;
+        if !hear(quest, row.call, &mut row.words)? {
+            row.told.word("no");
+        }
+        tell_move(quest, &mut row.told);
+        Ok(())
     }
 
     /// Tells what comes of a call with these words.
-    pub(crate) fn play(
-        &mut self,
-        call: &str,
-        words: &[Vec<u8>],
-        told: &mut Told,
-    ) -> Result<(), Unplayed> {
-        let mut list = Vec::new(self.alloc);
-        match (call, words) {
-            ("search", words) => {
-                for word in words {
-                    list.push(addr(word)?)?;
-                }
-                return self.begin(&list, told);
-            }
-            ("search_alike", [count, word]) => {
-                for _ in 0..number(count)? {
-                    list.push(addr(word)?)?;
-                }
-                return self.begin(&list, told);
-            }
-            _ => {}
+    pub(crate) fn play(&mut self, row: &mut Row<'_>) -> Result<(), Unplayed> {
+        match row.call {
+            "search" => self.search(row),
+            "search_alike" => self.search_alike(row),
+            _ => self.go_on(row),
         }
-        let quest = self.quest.as_mut().ok_or(Unplayed::OutOfRange)?;
-        if !hear(quest, call, words)? {
-            told.word("no")?;
-        }
-        tell_move(quest, told)
     }
 }

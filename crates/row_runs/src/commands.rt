@@ -2,13 +2,14 @@
 
 use crate::frames::{feed, next};
 use crate::told::{Told, Unplayed};
+use crate::words::Row;
 use ballot_law::{Command, Name, Text};
 use resp2::{CommandFault, Frames, Value, command_of};
 use std::alloc::Global;
 
 /// Tells the name of a command, and the master that it names.
-fn tell_named(name: &str, master: &Option<Name>, told: &mut Told) -> Result<(), Unplayed> {
-    told.word(name)?;
+fn tell_named(name: &str, master: &Option<Name>, told: &mut Told) {
+    told.word(name);
     match master {
         Some(master) => told.bytes(master.as_slice()),
         None => told.word("None"),
@@ -16,7 +17,7 @@ fn tell_named(name: &str, master: &Option<Name>, told: &mut Told) -> Result<(), 
 }
 
 /// Tells a command.
-pub(crate) fn tell_command(command: &Command, told: &mut Told) -> Result<(), Unplayed> {
+pub(crate) fn tell_command(command: &Command, told: &mut Told) {
     match command {
         Command::Ping => told.word("Ping"),
         Command::IsMasterDownByAddr {
@@ -24,10 +25,10 @@ pub(crate) fn tell_command(command: &Command, told: &mut Told) -> Result<(), Unp
             epoch,
             candidate,
         } => {
-            told.word("IsMasterDownByAddr")?;
-            told.address(*addr)?;
-            told.number(*epoch)?;
-            told.maybe_id(*candidate)
+            told.word("IsMasterDownByAddr");
+            told.address(*addr);
+            told.number(*epoch);
+            told.maybe_id(*candidate);
         }
         Command::GetMasterAddrByName(master) => tell_named("GetMasterAddrByName", master, told),
         Command::Masters => told.word("Masters"),
@@ -44,7 +45,7 @@ pub(crate) fn tell_command(command: &Command, told: &mut Told) -> Result<(), Unp
 }
 
 /// Tells the command that a value is, or its first fault.
-fn tell_judged(value: &Value, told: &mut Told) -> Result<(), Unplayed> {
+fn tell_judged(value: &Value, told: &mut Told) {
     match command_of(value) {
         Ok(command) => tell_command(&command, told),
         Err(fault) => told.shown(&fault),
@@ -82,15 +83,12 @@ pub(crate) fn fault_of(value: &Value) -> Result<CommandFault, Unplayed> {
 }
 
 /// Tells what comes of a call with these words.
-pub(crate) fn play(
-    alloc: Global,
-    call: &str,
-    words: &[Vec<u8>],
-    told: &mut Told,
-) -> Result<(), Unplayed> {
-    match (call, words) {
-        ("command_of", [bytes]) => tell_judged(&value_of(alloc, bytes)?, told),
-        ("command_of_words", words) => tell_judged(&array(alloc, words)?, told),
-        _ => Err(Unplayed::NoSuchCall),
-    }
+pub(crate) fn play(row: &mut Row<'_>) -> Result<(), Unplayed> {
+    let value = match row.call {
+        "command_of" => value_of(row.alloc, row.words.bytes())?,
+        "command_of_words" => array(row.alloc, row.words.rest())?,
+        _ => return Err(Unplayed::NoSuchCall),
+    };
+    tell_judged(&value, &mut row.told);
+    Ok(())
 }

@@ -3,8 +3,8 @@
 ghost use Rattle.std.specs.Prelude.{IsTrue};
 ghost use Rattle.sentinel_conf.specs.Rewritten.{IsKeptMaster, IsKeptPart};
 
-use crate::given::{address, is_in, joined, maybe_id, number};
 use crate::told::{Told, Unplayed};
+use crate::words::{Row, Words, joined};
 use ballot_law::{Card, Kept, KeptMaster, KeptMasters, MAX_EPOCH, Watched};
 use conf_lines::{ConfFault, ConfKind};
 use sentinel_conf::{Conf, ConfText, Settings, read, rewrite_into};
@@ -36,12 +36,12 @@ pub(crate) fn conf_of(alloc: Global, text: &[u8]) -> Result<Box<Conf>, Unplayed>
 }
 
 /// Tells the settings of a master, if it is one.
-fn tell_settings(settings: Option<Settings>, told: &mut Told) -> Result<(), Unplayed> {
+fn tell_settings(settings: Option<Settings>, told: &mut Told) {
     match settings {
         Some(settings) => {
-            told.number(settings.after_ms)?;
-            told.number(settings.parallel_syncs)?;
-            told.number(settings.timeout)
+            told.number(settings.after_ms);
+            told.number(settings.parallel_syncs);
+            told.number(settings.timeout);
         }
         None => told.word("None"),
     }
@@ -49,30 +49,37 @@ fn tell_settings(settings: Option<Settings>, told: &mut Told) -> Result<(), Unpl
 
 /// Tells the place of the Sentinel, its port and its current epoch, how many masters it keeps, how many Sentinels there
 /// are, and the settings of the first two masters.
-fn tell_conf(conf: &Conf, told: &mut Told) -> Result<(), Unplayed> {
-    told.number(u64::from(conf.place()))?;
-    told.number(u64::from(conf.port()))?;
-    told.number(conf.kept().current)?;
-    told.number(conf.kept().masters.as_slice().len() as u64)?;
-    told.number(conf.roster().sentinels().len() as u64)?;
-    tell_settings(conf.settings(0), told)?;
-    tell_settings(conf.settings(1), told)
+fn tell_conf(conf: &Conf, told: &mut Told) {
+    told.number(u64::from(conf.place()));
+    told.number(u64::from(conf.port()));
+    told.number(conf.kept().current);
+    told.number(conf.kept().masters.as_slice().len() as u64);
+    told.number(conf.roster().sentinels().len() as u64);
+    tell_settings(conf.settings(0), told);
+    tell_settings(conf.settings(1), told);
 }
 
 /// Tells what a text says and how many masters there are, or its fault and the line of that.
-fn tell_read(alloc: Global, text: &[u8], told: &mut Told) -> Result<(), Unplayed> {
+fn tell_read(alloc: Global, text: &[u8], told: &mut Told) {
     match conf_at_last(alloc, text) {
         Ok(conf) => {
-            tell_conf(&conf, told)?;
+            tell_conf(&conf, told);
             let roster = Box::into_inner(conf).into_roster();
-            told.number(roster.masters().len() as u64)
+            told.number(roster.masters().len() as u64);
         }
         Err(fault) => {
-            told.shown(&fault)?;
-            told.word("at")?;
-            told.number(fault.line)
+            told.shown(&fault);
+            told.word("at");
+            told.number(fault.line);
         }
     }
+}
+
+/// Whether these words have this one among them.
+fn is_in(words: &[Vec<u8>], wanted: &str) -> bool {
+    words
+        .iter()
+        .any(|word| word.as_slice() == wanted.as_bytes())
 }
 
 /// Tells how many beginnings of a text are refused with one of these faults, or the first that isn't and what comes of
@@ -85,24 +92,30 @@ fn tell_beginnings(
 ) -> Result<(), Unplayed> {
     for end in 0..text.len() {
         let mut beginning = Told::new(alloc);
-        tell_read(alloc, &text[..end], &mut beginning)?;
+        tell_read(alloc, &text[..end], &mut beginning);
         let fault = beginning.as_str().split(' ').next().unwrap_or("");
+        if beginning.is_cut() {
+            return Err(Unplayed::NoMemory);
+        }
         if !is_in(faults, fault) {
-            told.word(beginning.as_str())?;
-            told.word("of the first")?;
-            return told.number(end as u64);
+            told.word(beginning.as_str());
+            told.word("of the first");
+            told.number(end as u64);
+            return Ok(());
         }
     }
-    told.number(text.len() as u64)
+    told.number(text.len() as u64);
+    Ok(())
 }
 
-/// Tells the candidate of the only master of a text.
-fn tell_candidate(alloc: Global, text: &[u8], told: &mut Told) -> Result<(), Unplayed> {
-    let conf = conf_of(alloc, text)?;
+/// Tells the candidate of the only master of a text of these words.
+fn tell_candidate(alloc: Global, words: &[Vec<u8>], told: &mut Told) -> Result<(), Unplayed> {
+    let conf = conf_of(alloc, &joined(alloc, words)?)?;
     match conf.kept().masters.as_slice() {
         [master] => told.maybe_id(master.candidate),
-        _ => Err(Unplayed::WrongWords),
+        _ => return Err(Unplayed::WrongWords),
     }
+    Ok(())
 }
 
 /// Tells a conf as it is rewritten with this.
@@ -111,28 +124,28 @@ fn tell_rewritten(alloc: Global, conf: &Conf, kept: &Kept, told: &mut Told) -> R
 {
     let mut text = ConfText::room_for(alloc, conf)?;
     rewrite_into(conf, kept, &mut text);
-    told.bytes(text.as_slice())
+    told.bytes(text.as_slice());
+    Ok(())
 }
 
-/// Tells a file as it is rewritten with what it holds itself.
-fn tell_again(alloc: Global, text: &[u8], told: &mut Told) -> Result<(), Unplayed> {
-    let conf = conf_of(alloc, text)?;
+/// Tells a file of these words as it is rewritten with what it holds itself.
+fn tell_again(alloc: Global, words: &[Vec<u8>], told: &mut Told) -> Result<(), Unplayed> {
+    let conf = conf_of(alloc, &joined(alloc, words)?)?;
     tell_rewritten(alloc, &conf, conf.kept(), told)
 }
 
-/// What is kept of the only master at this current epoch: an address, the epoch of that, the epoch of the last vote,
-/// and its candidate.
-fn kept_of(alloc: Global, current: u64, words: &[Vec<u8>]) -> Result<Kept, Unplayed> {
-    let [ip, port, epoch, voted, candidate] = words else {
-        return Err(Unplayed::WrongWords);
-    };
+/// What these words keep: the current epoch, and of the only master an address, the epoch of that, the epoch of the
+/// last vote, and its candidate.
+fn kept_of(alloc: Global, words: &mut Words<'_>) -> Result<Kept, Unplayed> {
+    let current = words.number();
+    let addr = words.address();
     let master = KeptMaster {
         card: Card {
-            epoch: number(epoch)?,
-            addr: address(ip, port)?,
+            addr,
+            epoch: words.number(),
         },
-        voted: number(voted)?,
-        candidate: maybe_id(candidate)?,
+        voted: words.number(),
+        candidate: words.maybe_id(),
     };
     Ok(Kept {
         current,
@@ -162,39 +175,36 @@ fn is_kept_part(conf: &Conf, kept: &Kept) -> bool
     }
 }
 
-/// Tells a file as it is rewritten with what these words keep.
-fn tell_rewritten_with(
-    alloc: Global,
-    text: &[u8],
-    current: u64,
-    words: &[Vec<u8>],
-    told: &mut Told,
-) -> Result<(), Unplayed> {
-    let conf = conf_of(alloc, text)?;
-    let kept = kept_of(alloc, current, words)?;
+/// Tells the file that is the first word as it is rewritten with what the others keep.
+fn tell_rewritten_with(row: &mut Row<'_>) -> Result<(), Unplayed> {
+    let conf = conf_of(row.alloc, row.words.bytes())?;
+    let kept = kept_of(row.alloc, &mut row.words)?;
     if !is_kept_part(&conf, &kept) {
         return Err(Unplayed::WrongWords);
     }
-    tell_rewritten(alloc, &conf, &kept, told)
+    tell_rewritten(row.alloc, &conf, &kept, &mut row.told)
 }
 
 /// Tells what comes of a call with these words.
-pub(crate) fn play(
-    alloc: Global,
-    call: &str,
-    words: &[Vec<u8>],
-    told: &mut Told,
-) -> Result<(), Unplayed> {
-    match (call, words) {
-        ("read", words) => tell_read(alloc, &joined(alloc, words)?, told),
-        ("candidate", words) => tell_candidate(alloc, &joined(alloc, words)?, told),
-        ("read_each_beginning", [text, faults @ ..]) => {
-            tell_beginnings(alloc, text, faults, told)
+pub(crate) fn play(row: &mut Row<'_>) -> Result<(), Unplayed> {
+    match row.call {
+        "read" => {
+            tell_read(
+                row.alloc,
+                &joined(row.alloc, row.words.rest())?,
+                &mut row.told,
+            );
+            Ok(())
         }
-        ("rewrite", words) => tell_again(alloc, &joined(alloc, words)?, told),
-        ("rewrite_with", [text, current, kept @ ..]) => {
-            tell_rewritten_with(alloc, text, number(current)?, kept, told)
-        }
+        "candidate" => tell_candidate(row.alloc, row.words.rest(), &mut row.told),
+        "read_each_beginning" => tell_beginnings(
+            row.alloc,
+            row.words.bytes(),
+            row.words.rest(),
+            &mut row.told,
+        ),
+        "rewrite" => tell_again(row.alloc, row.words.rest(), &mut row.told),
+        "rewrite_with" => tell_rewritten_with(row),
         _ => Err(Unplayed::NoSuchCall),
     }
 }

@@ -3,20 +3,29 @@
 ghost use Rattle.std.specs.Prelude.{◌≡◌, IfOk};
 ghost use Rattle.sentinel_outbox.specs.declared.phase.Phase.TheVariants.{Ready};
 
-use crate::given::{number, number_16, says};
 use crate::told::{Told, Unplayed};
+use crate::words::{Row, Words};
 use ballot_law::{Addr, Card, Note, Text};
-use courteous_sessions::ClientSession;
+use courteous_sessions::{ClientSession, Reach};
 use sentinel_cell::{CellFault, Seat, SharedSentinel};
 use sentinel_conf::{MemoryStore, read};
 use sentinel_core::{Sentinel, ServeFault};
 use sentinel_rules::Profile;
 use std::alloc::Global;
 use std::sync::Wait;
-use tokens::run_id_text;
 
 /// How many bytes have room in a store, so that it takes no memory.
 const ROOM: usize = 65_536;
+
+/// How a conversation begins: with this file, with courtesies or without, with a store that refuses its first text or
+/// takes it, and with so many answers that may be stored before a session lets others go first.
+#[derive(Clone, Copy)]
+struct Opening<'a> {
+    file: &'a [u8],
+    courteous: bool,
+    refuses: bool,
+    most: u64,
+}
 
 /// One seat of a Sentinel, and two clients who are answered at it.
 #[derive(Drop)]
@@ -25,6 +34,8 @@ struct Talk {
     cell: SharedSentinel<MemoryStore>,
     seat: Seat,
     courteous: bool,
+    /// After how many answers that may be stored the first client's session stops, to be called again.
+    most: u64,
     first: ClientSession,
     second: ClientSession,
     /// What the first client wasn't sent of a session that lacked memory.
@@ -32,17 +43,15 @@ struct Talk {
     ghost own: { seat.cell ≡ cell.id },
 }
 
-/// A shared Sentinel with this file, whose store refuses its first text if that is wanted, and its seat.
+/// A shared Sentinel that opens so, and its seat.
 fn shared(
     alloc: Global,
-    file: &[u8],
-    refuses: bool,
-    courteous: bool,
+    opening: Opening<'_>,
 ) -> Result<(SharedSentinel<MemoryStore>, Seat), Unplayed>
     ensures { IfOk result (λ r. r.1.cell ≡ r.0.id) }
 {
-    let store = store(alloc, file, refuses)?;
-    let sentinel = opened(alloc, file, courteous)?;
+    let store = store(alloc, opening.file, opening.refuses)?;
+    let sentinel = opened(alloc, opening.file, opening.courteous)?;
     match SharedSentinel::new(alloc, sentinel, store, 1) {
         Ok(shared) => Ok(shared),
         Err(_) => Err(Unplayed::NoMemory),
@@ -73,9 +82,10 @@ fn tell_seats(alloc: Global, file: &[u8], seats: u64, told: &mut Told) -> Result
     let sentinel = opened(alloc, file, false)?;
     match SharedSentinel::new(alloc, sentinel, store, seats) {
         Ok((_, seat)) => told.number(seat.share()),
-        Err((_, CellFault::NoMemory)) => Err(Unplayed::NoMemory),
+        Err((_, CellFault::NoMemory)) => return Err(Unplayed::NoMemory),
         Err((_, fault)) => told.shown(&fault),
     }
+    Ok(())
 }
 
 /// A store with this text, which refuses its first text if that is wanted.
@@ -93,9 +103,10 @@ fn store(alloc: Global, file: &[u8], refuses: bool) -> Result<MemoryStore, Unpla
 fn tell_end(end: Result<(), ServeFault>, told: &mut Told) -> Result<(), Unplayed> {
     match end {
         Ok(()) => told.ok(),
-        Err(ServeFault::NoMemory) => Err(Unplayed::NoMemory),
+        Err(ServeFault::NoMemory) => return Err(Unplayed::NoMemory),
         Err(fault) => told.shown(&fault),
     }
+    Ok(())
 }
 
 /// The note that the first master moved to the node with this port.
@@ -113,27 +124,41 @@ fn moved(epoch: u64, port: u16) -> Note {
 
 impl Talk {
     /// A conversation that hasn't begun, in a box.
-    fn boxed(
-        alloc: Global,
-        file: &[u8],
-        refuses: bool,
-        courteous: bool,
-    ) -> Result<Box<Talk>, Unplayed> {
-        let (cell, seat) = shared(alloc, file, refuses, courteous)?;
+    fn boxed(alloc: Global, opening: Opening<'_>) -> Result<Box<Talk>, Unplayed> {
+        let (cell, seat) = shared(alloc, opening)?;
         let talk = Talk {
             alloc,
             cell,
             seat,
-            courteous,
-            first: ClientSession::new(alloc, courteous, 1),
-            second: ClientSession::new(alloc, courteous, 2),
+            courteous: opening.courteous,
+            most: opening.most,
+            first: ClientSession::new(alloc, opening.courteous, 1),
+            second: ClientSession::new(alloc, opening.courteous, 2),
             part: Vec::new(alloc),
         };
         Ok(Box::new(alloc, talk)?)
     }
 
-    /// The first client sends a piece, at clock 0.
+    /// The first client's session goes on with this piece, at clock 0: how far it came.
+    fn go_on<R: Wait>(&mut self, rt: &R, piece: &[u8]) -> Result<Reach, ServeFault> {
+        self.first
+            .go_on(rt, &self.cell, &mut self.seat, 0, piece, self.most)
+    }
+
+    /// The first client sends a piece, as to a port: its session goes on until it is done.
     fn say<R: Wait>(&mut self, rt: &R, piece: &[u8]) -> Result<(), ServeFault> {
+        let mut reach = self.go_on(rt, piece)?;
+        for _ in 0..u64::MAX {
+            if matches!(reach, Reach::Done) {
+                return Ok(());
+            }
+            reach = self.go_on(rt, &[])?;
+        }
+        Ok(())
+    }
+
+    /// The first client sends a piece, which is taken at once, at clock 0.
+    fn say_at_once<R: Wait>(&mut self, rt: &R, piece: &[u8]) -> Result<(), ServeFault> {
         self.first
             .received(rt, &self.cell, &mut self.seat, 0, piece)
     }
@@ -170,11 +195,11 @@ impl Talk {
     }
 
     /// Tells the last request for a vote of the first client that was too far ahead, if there was one.
-    fn tell_far(&mut self, told: &mut Told) -> Result<(), Unplayed> {
+    fn tell_far(&mut self, told: &mut Told) {
         match self.first.take_far() {
             Some(request) => {
-                told.bytes(run_id_text(request.candidate).as_slice())?;
-                told.number(request.epoch)
+                told.id(request.candidate);
+                told.number(request.epoch);
             }
             None => told.word("none"),
         }
@@ -186,10 +211,11 @@ impl Talk {
         if !self.first.unsent().starts_with(&self.part) {
             return Err(Unplayed::Changed);
         }
-        told.bytes(self.first.unsent())
+        told.bytes(self.first.unsent());
+        Ok(())
     }
 
-    /// The second client does.
+    /// The second client sends one, which is taken at once, too.
     fn other_say<R: Wait>(&mut self, rt: &R, piece: &[u8]) -> Result<(), ServeFault> {
         self.second
             .received(rt, &self.cell, &mut self.seat, 0, piece)
@@ -217,8 +243,11 @@ impl Talk {
         true
     }
 
-    /// The first client is told of a note where it is due.
-    fn hear(&mut self, note: &Note, entry: u64) -> Result<bool, Unplayed> {
+    /// The first client is told of the note that the words are, where it is due: the epoch and the port to which the
+    /// first master moved, and the place of the entry.
+    fn hear(&mut self, words: &mut Words<'_>) -> Result<bool, Unplayed> {
+        let note = &moved(words.number(), words.number_16());
+        let entry = words.number();
         let roster = self.cell.roster();
         if note.master as usize >= roster.masters().len() {
             return Err(Unplayed::OutOfRange);
@@ -226,42 +255,43 @@ impl Talk {
         Ok(self.first.notify(roster, note, entry)?)
     }
 
-    /// Tells what comes of a call with these words.
-    fn play<R: Wait>(
-        &mut self,
-        rt: &R,
-        call: &str,
-        words: &[Vec<u8>],
-        told: &mut Told,
-    ) -> Result<(), Unplayed> {
-        match (call, words) {
-            ("says", [piece]) => self.tell_said(rt, piece, told),
-            ("other_says", [piece]) => tell_end(self.other_say(rt, piece), told),
-            ("says_in_pieces", [size, stream]) => {
-                let size = number(size)? as usize;
-                tell_end(self.say_in_pieces(rt, size, stream), told)
+    /// Tells what comes of a call beside what clients send.
+    fn play_beside(&mut self, row: &mut Row<'_>) -> Result<(), Unplayed> {
+        match row.call {
+            "unsent" => return self.tell_unsent(&mut row.told),
+            "other_unsent" => row.told.bytes(self.second.unsent()),
+            "sent" => row.told.yes(self.send(row.words.size())),
+            "hears" => row.told.yes(self.hear(&mut row.words)?),
+            "wants_password" => {
+                self.want_password(row.words.bytes())?;
+                row.told.ok();
             }
-            ("unsent", []) => self.tell_unsent(told),
-            ("other_unsent", []) => told.bytes(self.second.unsent()),
-            ("sent", [count]) => told.yes(self.send(number(count)? as usize)),
-            ("hears", [epoch, port, entry]) => {
-                let note = moved(number(epoch)?, number_16(port)?);
-                told.yes(self.hear(&note, number(entry)?)?)
+            "knows_epoch" => {
+                self.first.note_epoch(row.words.number());
+                row.told.ok();
             }
-            ("wants_password", [password]) => {
-                self.want_password(password)?;
-                told.ok()
-            }
-            ("knows_epoch", [epoch]) => {
-                self.first.note_epoch(number(epoch)?);
-                told.ok()
-            }
-            ("far", []) => self.tell_far(told),
-            ("begins_anew", []) => {
+            "far" => self.tell_far(&mut row.told),
+            "begins_anew" => {
                 self.begin_anew();
-                told.ok()
+                row.told.ok();
             }
-            _ => Err(Unplayed::NoSuchCall),
+            _ => return Err(Unplayed::NoSuchCall),
+        }
+        Ok(())
+    }
+
+    /// Tells what comes of a call with these words.
+    fn play<R: Wait>(&mut self, row: &mut Row<'_>, rt: &R) -> Result<(), Unplayed> {
+        match row.call {
+            "says" => self.tell_said(rt, row.words.bytes(), &mut row.told),
+            "other_says" => tell_end(self.other_say(rt, row.words.bytes()), &mut row.told),
+            "says_in_pieces" => {
+                tell_end(
+                    self.say_in_pieces(rt, row.words.size(), row.words.bytes()),
+                    &mut row.told,
+                )
+            }
+            _ => self.play_beside(row),
         }
     }
 }
@@ -279,70 +309,101 @@ impl Conversations {
         Conversations { alloc, talk: None }
     }
 
-    /// What a stream gets that is cut in two at a place, in a conversation of its own.
-    fn cut<R: Wait>(
+    /// What a stream gets that is taken at once.
+    fn whole<R: Wait>(
         &self,
         rt: &R,
-        file: &[u8],
+        opening: Opening<'_>,
         stream: &[u8],
-        place: usize,
-        courteous: bool,
     ) -> Result<Vec<u8>, Unplayed> {
-        let (front, back) = stream.split_at(place.min(stream.len()));
-        let mut talk = Talk::boxed(self.alloc, file, false, courteous)?;
-        if talk.say(rt, front).is_err() || talk.say(rt, back).is_err() {
+        let mut talk = Talk::boxed(self.alloc, opening)?;
+        if talk.say_at_once(rt, stream).is_err() {
             return Err(Unplayed::NoMemory);
         }
         Ok(Vec::from_slice(self.alloc, talk.first.unsent())?)
     }
 
-    /// Tells what a stream gets, if it is the same wherever it is cut in two.
+    /// Whether a stream gets this that is cut in two at a place, in a conversation of its own.
+    fn gets<R: Wait>(
+        &self,
+        rt: &R,
+        opening: Opening<'_>,
+        parts: (&[u8], &[u8]),
+        answers: &[u8],
+    ) -> Result<bool, Unplayed> {
+        let mut talk = Talk::boxed(self.alloc, opening)?;
+        if talk.say(rt, parts.0).is_err() || talk.say(rt, parts.1).is_err() {
+            return Err(Unplayed::NoMemory);
+        }
+        Ok(talk.first.unsent() == answers)
+    }
+
+    /// Tells what a stream gets, if it is the same wherever it is cut in two, and where the session stops after each
+    /// answer that may be stored.
     fn tell_cuts<R: Wait>(
         &self,
         rt: &R,
-        file: &[u8],
+        opening: Opening<'_>,
         stream: &[u8],
-        courteous: bool,
         told: &mut Told,
     ) -> Result<(), Unplayed> {
-        let whole = self.cut(rt, file, stream, 0, courteous)?;
-        for place in 1..=stream.len() {
-            if self.cut(rt, file, stream, place, courteous)?.as_slice() != whole.as_slice() {
-                told.word("otherwise-cut-at")?;
-                return told.number(place as u64);
+        let whole = self.whole(rt, opening, stream)?;
+        for place in 0..=stream.len() {
+            if !self.gets(
+                rt,
+                opening,
+                stream.split_at(place.min(stream.len())),
+                &whole,
+            )? {
+                told.word("otherwise-cut-at");
+                told.number(place as u64);
+                return Ok(());
             }
         }
-        told.bytes(&whole)
+        told.bytes(&whole);
+        Ok(())
+    }
+
+    /// Makes a conversation, without courtesies or with them, and tells that.
+    fn make(&mut self, row: &mut Row<'_>, courteous: bool) -> Result<(), Unplayed> {
+        let opening = Opening {
+            file: row.words.bytes(),
+            courteous,
+            refuses: row.words.says("refuses", "stores"),
+            most: u64::MAX,
+        };
+        self.talk = Some(Talk::boxed(self.alloc, opening)?);
+        row.told.ok();
+        Ok(())
+    }
+
+    /// Tells what comes of a call of the conversation that was made.
+    fn play_made<R: Wait>(&mut self, row: &mut Row<'_>, rt: &R) -> Result<(), Unplayed> {
+        let talk = self.talk.as_mut().ok_or(Unplayed::OutOfRange)?;
+        talk.play(row, rt)
     }
 
     /// Tells what comes of a call with these words.
-    pub(crate) fn play<R: Wait>(
-        &mut self,
-        rt: &R,
-        call: &str,
-        words: &[Vec<u8>],
-        told: &mut Told,
-    ) -> Result<(), Unplayed> {
-        match (call, words) {
-            ("conversation", [file, store]) => {
-                let refuses = says(store, "refuses", "stores")?;
-                self.talk = Some(Talk::boxed(self.alloc, file, refuses, false)?);
-                told.ok()
+    pub(crate) fn play<R: Wait>(&mut self, row: &mut Row<'_>, rt: &R) -> Result<(), Unplayed> {
+        match row.call {
+            "conversation" => self.make(row, false),
+            "courteous_conversation" => self.make(row, true),
+            "each_cut" | "each_courteous_cut" => {
+                let opening = Opening {
+                    file: row.words.bytes(),
+                    courteous: row.call == "each_courteous_cut",
+                    refuses: false,
+                    most: 1,
+                };
+                self.tell_cuts(rt, opening, row.words.bytes(), &mut row.told)
             }
-            ("courteous_conversation", [file, store]) => {
-                let refuses = says(store, "refuses", "stores")?;
-                self.talk = Some(Talk::boxed(self.alloc, file, refuses, true)?);
-                told.ok()
-            }
-            ("each_cut", [file, stream]) => self.tell_cuts(rt, file, stream, false, told),
-            ("each_courteous_cut", [file, stream]) => {
-                self.tell_cuts(rt, file, stream, true, told)
-            }
-            ("seats", [file, seats]) => tell_seats(self.alloc, file, number(seats)?, told),
-            _ => {
-                let talk = self.talk.as_mut().ok_or(Unplayed::OutOfRange)?;
-                talk.play(rt, call, words, told)
-            }
+            "seats" => tell_seats(
+                self.alloc,
+                row.words.bytes(),
+                row.words.number(),
+                &mut row.told,
+            ),
+            _ => self.play_made(row, rt),
         }
     }
 }

@@ -5,6 +5,7 @@ ghost use Rattle.resp2.specs.Framing.Frame.{view, HasLines};
 use crate::commands::{array, tell_command, value_of};
 use crate::rosters::watching_mymaster;
 use crate::told::{Told, Unplayed};
+use crate::words::{Row, Words};
 use ballot_law::{Addr, RunId, Text};
 use client_commands::{
     ClientEntry, ClientInfo, CommandReader, Courtesy, Figures, PortFacts, Protocol, courtesy_of,
@@ -91,7 +92,7 @@ fn locked(alloc: Global, admitted: bool) -> Result<ClientInfo, Unplayed> {
 }
 
 /// Tells what becomes of a value, and the text that goes with it.
-fn tell_kind(kind: Courtesy, text: &[u8], told: &mut Told) -> Result<(), Unplayed> {
+fn tell_kind(kind: Courtesy, text: &[u8], told: &mut Told) {
     match kind {
         Courtesy::Left => told.word("left"),
         Courtesy::Said => told.bytes(text),
@@ -110,22 +111,23 @@ fn tell(
     let mut out = OutText::new(alloc);
     let (value, roster) = (array(alloc, words)?, watching_mymaster(alloc)?);
     let kind = courtesy_of(alloc, asker, &value, &roster, &mut out)?;
-    tell_kind(kind, out.as_slice(), told)?;
+    tell_kind(kind, out.as_slice(), told);
     if asker.password.is_some() && asker.admitted {
-        told.word("admitted")?;
+        told.word("admitted");
     }
     if !asker.protocol.is_two() {
-        told.word("speaks-3")?;
+        told.word("speaks-3");
     }
     for place in asker.port.killed.as_slice() {
-        told.word("killed")?;
-        told.number(*place as u64)?;
+        told.word("killed");
+        told.number(*place as u64);
     }
     if asker.name.as_slice().is_empty() {
         return Ok(());
     }
-    told.word("named")?;
-    told.bytes(asker.name.as_slice())
+    told.word("named");
+    told.bytes(asker.name.as_slice());
+    Ok(())
 }
 
 /// Tells the answer to INFO with these words, where the Sentinel answers with this section.
@@ -144,7 +146,8 @@ fn tell_info(
         &value_of(alloc, section)?,
         &mut out,
     )?;
-    told.bytes(out.as_slice())
+    told.bytes(out.as_slice());
+    Ok(())
 }
 
 /// Tells what each of some commands of one connection is answered, each command as a line.
@@ -159,7 +162,7 @@ fn tell_each(alloc: Global, lines: &[Vec<u8>], told: &mut Told) -> Result<(), Un
         }
         let value = array(alloc, words.as_slice())?;
         courtesy_of(alloc, &mut asker, &value, &roster, &mut out)?;
-        told.bytes(out.as_slice())?;
+        told.bytes(out.as_slice());
     }
     Ok(())
 }
@@ -170,7 +173,8 @@ fn tell_value(alloc: Global, value: &Value, told: &mut Told) -> Result<(), Unpla
 {
     let mut out = OutText::new(alloc);
     write_value(value, &mut out)?;
-    told.bytes(out.as_slice())
+    told.bytes(out.as_slice());
+    Ok(())
 }
 
 /// The section of a Sentinel without masters, cut short.
@@ -187,14 +191,15 @@ fn tell_one(
     requires { HasLines (view value.now) }
 {
     let kind = attendant.attend_to(value, &watching_mymaster(alloc)?)?;
-    tell_kind(kind, attendant.text(), told)?;
+    tell_kind(kind, attendant.text(), told);
     match kind {
         Courtesy::Said => Ok(()),
         Courtesy::Left => tell_value(alloc, value, told),
         Courtesy::AsksInfo => {
             let section = Value::Bulk(Text::from_slice(alloc, NO_MASTERS)?);
             attendant.inform(value, &section)?;
-            told.bytes(attendant.text())
+            told.bytes(attendant.text());
+            Ok(())
         }
     }
 }
@@ -211,7 +216,7 @@ fn tell_whole(
             Ok(None) => return Ok(true),
             Err(FrameFault::NoMemory) => return Err(Unplayed::NoMemory),
             Err(fault) => {
-                told.shown(&fault)?;
+                told.shown(&fault);
                 return Ok(false);
             }
         }
@@ -220,29 +225,24 @@ fn tell_whole(
 }
 
 /// Tells the commands that come first and are read where they stand.
-fn tell_commands(attendant: &mut CommandReader, told: &mut Told) -> Result<(), Unplayed> {
+fn tell_commands(attendant: &mut CommandReader, told: &mut Told) {
     for _ in 0..u64::MAX {
         match attendant.next_common() {
-            Some(command) => tell_command(&command, told)?,
-            None => return Ok(()),
+            Some(command) => tell_command(&command, told),
+            None => return,
         }
     }
-    Ok(())
 }
 
 /// Tells of each piece the commands that come first and are read where they stand, and the value after them by its
 /// bytes.
-fn tell_common(
-    alloc: Global,
-    attendant: &mut CommandReader,
-    pieces: &[Vec<u8>],
-    told: &mut Told,
-) -> Result<(), Unplayed> {
+fn tell_common(alloc: Global, pieces: &[Vec<u8>], told: &mut Told) -> Result<(), Unplayed> {
+    let mut attendant = attendant(alloc)?;
     for piece in pieces {
         if attendant.feed(piece).is_err() {
             return Err(Unplayed::NoMemory);
         }
-        tell_commands(attendant, told)?;
+        tell_commands(&mut attendant, told);
         if let Ok(Some(value)) = attendant.next() {
             tell_value(alloc, &value, told)?;
         }
@@ -251,13 +251,13 @@ fn tell_common(
 }
 
 /// Tells the commands with which a piece begins that isn't held, and the bytes behind them.
-fn tell_unheld(piece: &[u8], told: &mut Told) -> Result<(), Unplayed> {
+fn tell_unheld(piece: &[u8], told: &mut Told) {
     let mut left = piece;
     while let Some((command, rest)) = common_in(left) {
-        tell_command(&command, told)?;
+        tell_command(&command, told);
         left = rest;
     }
-    told.bytes(left)
+    told.bytes(left);
 }
 
 /// Tells what becomes of the values of a stream that comes in these pieces.
@@ -283,40 +283,64 @@ fn attendant(alloc: Global) -> Result<CommandReader, Unplayed> {
     Ok(CommandReader::new(alloc, asker(alloc, b"", false)?))
 }
 
-/// One that attends to a stream of the connection once it listens.
-fn listening(alloc: Global) -> Result<CommandReader, Unplayed> {
+/// The connection whose commands a call asks.
+fn asker_of(alloc: Global, call: &str, words: &mut Words<'_>) -> Result<ClientInfo, Unplayed> {
+    match call {
+        "ask" => asker(alloc, b"", false),
+        "ask_listening" => asker(alloc, b"", true),
+        "ask_locked" => locked(alloc, false),
+        "ask_admitted" => locked(alloc, true),
+        "ask_as" => asker(alloc, words.bytes(), false),
+        _ => Err(Unplayed::NoSuchCall),
+    }
+}
+
+/// One that attends to a stream of the connection with no name, which listens, or of whose client a password is wanted,
+/// by the call.
+fn attendant_of(alloc: Global, call: &str) -> Result<CommandReader, Unplayed> {
     let mut attendant = attendant(alloc)?;
-    attendant.note_listening(true);
+    match call {
+        "attend_listening" => attendant.note_listening(true),
+        "attend_locked" => attendant.want_password(Text::from_slice(alloc, b"secret")?),
+        _ => {}
+    }
     Ok(attendant)
 }
 
-/// One that attends to a stream of the connection once a password is wanted of its client.
-fn demanding(alloc: Global) -> Result<CommandReader, Unplayed> {
-    let mut attendant = attendant(alloc)?;
-    attendant.want_password(Text::from_slice(alloc, b"secret")?);
-    Ok(attendant)
+/// Tells what becomes of the values of a stream, by a call with these pieces.
+fn tell_attended(
+    alloc: Global,
+    call: &str,
+    pieces: &[Vec<u8>],
+    told: &mut Told,
+) -> Result<(), Unplayed> {
+    tell_stream(alloc, &mut attendant_of(alloc, call)?, pieces, told)
+}
+
+/// Tells what becomes of a command, by a call with these words.
+fn tell_asked(row: &mut Row<'_>) -> Result<(), Unplayed> {
+    let mut asker = asker_of(row.alloc, row.call, &mut row.words)?;
+    tell(row.alloc, &mut asker, row.words.rest(), &mut row.told)
 }
 
 /// Tells what comes of a call with these words.
-pub(crate) fn play(
-    alloc: Global,
-    call: &str,
-    words: &[Vec<u8>],
-    told: &mut Told,
-) -> Result<(), Unplayed> {
-    match (call, words) {
-        ("ask", words) => tell(alloc, &mut asker(alloc, b"", false)?, words, told),
-        ("ask_listening", words) => tell(alloc, &mut asker(alloc, b"", true)?, words, told),
-        ("ask_locked", words) => tell(alloc, &mut locked(alloc, false)?, words, told),
-        ("ask_admitted", words) => tell(alloc, &mut locked(alloc, true)?, words, told),
-        ("ask_as", [name, words @ ..]) => tell(alloc, &mut asker(alloc, name, false)?, words, told),
-        ("info", [section, words @ ..]) => tell_info(alloc, section, words, told),
-        ("ask_each", lines) => tell_each(alloc, lines, told),
-        ("take_unheld", [piece]) => tell_unheld(piece, told),
-        ("take_common", pieces) => tell_common(alloc, &mut attendant(alloc)?, pieces, told),
-        ("attend", pieces) => tell_stream(alloc, &mut attendant(alloc)?, pieces, told),
-        ("attend_listening", pieces) => tell_stream(alloc, &mut listening(alloc)?, pieces, told),
-        ("attend_locked", pieces) => tell_stream(alloc, &mut demanding(alloc)?, pieces, told),
-        _ => Err(Unplayed::NoSuchCall),
+pub(crate) fn play(row: &mut Row<'_>) -> Result<(), Unplayed> {
+    match row.call {
+        "info" => tell_info(
+            row.alloc,
+            row.words.bytes(),
+            row.words.rest(),
+            &mut row.told,
+        ),
+        "ask_each" => tell_each(row.alloc, row.words.rest(), &mut row.told),
+        "take_unheld" => {
+            tell_unheld(row.words.bytes(), &mut row.told);
+            Ok(())
+        }
+        "take_common" => tell_common(row.alloc, row.words.rest(), &mut row.told),
+        "attend" | "attend_listening" | "attend_locked" => {
+            tell_attended(row.alloc, row.call, row.words.rest(), &mut row.told)
+        }
+        _ => tell_asked(row),
     }
 }

@@ -1,7 +1,7 @@
 //! Watched nodes, watched clocks, and what others say of a master.
 
-use crate::given::{number, number_16, number_32, says};
-use crate::told::{Told, Unplayed};
+use crate::told::Unplayed;
+use crate::words::{Row, Words};
 use ballot_law::{DataRole, PingReply};
 use down_detector::{DownReports, Tilt, Watch, is_odown};
 use std::alloc::Global;
@@ -15,21 +15,18 @@ pub(crate) struct DownStates {
     reports: DownReports,
 }
 
-/// What a word that begins with `+` or `-` counts as, as an answer to a PING.
-fn reply(word: &[u8]) -> Result<PingReply, Unplayed> {
-    match word {
-        [b'+', text @ ..] => Ok(PingReply::of(false, text)),
-        [b'-', text @ ..] => Ok(PingReply::of(true, text)),
-        _ => Err(Unplayed::WrongWords),
-    }
+/// What the next word, which begins with `+` or `-`, counts as, as an answer to a PING.
+fn reply(words: &mut Words<'_>) -> PingReply {
+    let (is_error, text) = words.signed();
+    PingReply::of(is_error, text)
 }
 
-/// The role that a word is.
-fn role(word: &[u8]) -> Result<DataRole, Unplayed> {
-    if says(word, "master", "slave")? {
-        Ok(DataRole::Master)
+/// The role that the next word is.
+fn role(words: &mut Words<'_>) -> DataRole {
+    if words.says("master", "slave") {
+        DataRole::Master
     } else {
-        Ok(DataRole::Replica)
+        DataRole::Replica
     }
 }
 
@@ -54,72 +51,80 @@ impl DownStates {
     }
 
     /// Tells what comes of a call about the clock or the reports.
-    fn play_others(
-        &mut self,
-        call: &str,
-        words: &[Vec<u8>],
-        told: &mut Told,
-    ) -> Result<(), Unplayed> {
-        match (call, words) {
-            ("tilt", [now]) => {
-                self.tilt = Tilt::new(number(now)?);
-                told.ok()
+    fn play_others(&mut self, row: &mut Row<'_>) -> Result<(), Unplayed> {
+        match row.call {
+            "tilt" => {
+                self.tilt = Tilt::new(row.words.number());
+                row.told.ok();
             }
-            ("turn", [now]) => told.yes(self.tilt.turn(number(now)?)),
-            ("holds", []) => told.yes(self.tilt.holds()),
-            ("reports", [sentinels]) => {
-                self.reports = DownReports::new(self.alloc, number_16(sentinels)?)?;
-                told.ok()
+            "turn" => row.told.yes(self.tilt.turn(row.words.number())),
+            "holds" => row.told.yes(self.tilt.holds()),
+            "reports" => {
+                self.reports = DownReports::new(self.alloc, row.words.number_16())?;
+                row.told.ok();
             }
-            ("report", [place, down, now]) => {
-                self.report(number_16(place)?, says(down, "down", "up")?, number(now)?)?;
-                told.ok()
+            "report" => {
+                self.report(
+                    row.words.number_16(),
+                    row.words.says("down", "up"),
+                    row.words.number(),
+                )?;
+                row.told.ok();
             }
-            ("clear", []) => {
+            "clear" => {
                 self.reports.clear();
-                told.ok()
+                row.told.ok();
             }
-            ("is_odown", [own, now, quorum]) => {
-                let own = says(own, "true", "false")?;
-                told.yes(is_odown(own, &self.reports, number(now)?, number_32(quorum)?))
+            "is_odown" => {
+                let own = row.words.says("true", "false");
+                row.told.yes(is_odown(
+                    own,
+                    &self.reports,
+                    row.words.number(),
+                    row.words.number_32(),
+                ));
             }
-            _ => Err(Unplayed::NoSuchCall),
+            _ => return Err(Unplayed::NoSuchCall),
         }
+        Ok(())
     }
 
     /// Tells what comes of a call with these words.
-    pub(crate) fn play(
-        &mut self,
-        call: &str,
-        words: &[Vec<u8>],
-        told: &mut Told,
-    ) -> Result<(), Unplayed> {
-        match (call, words) {
-            ("watch", [now]) => {
-                self.watch = Watch::new(number(now)?);
-                told.ok()
+    pub(crate) fn play(&mut self, row: &mut Row<'_>) -> Result<(), Unplayed> {
+        match row.call {
+            "watch" => {
+                self.watch = Watch::new(row.words.number());
+                row.told.ok();
             }
-            ("heard", [now, answer]) => {
-                self.watch.heard(number(now)?, reply(answer)?);
-                told.ok()
+            "heard" => {
+                self.watch.heard(row.words.number(), reply(&mut row.words));
+                row.told.ok();
             }
-            ("reported", [now, told_role]) => {
-                self.watch.reported(number(now)?, role(told_role)?);
-                told.ok()
+            "reported" => {
+                self.watch
+                    .reported(row.words.number(), role(&mut row.words));
+                row.told.ok();
             }
-            ("card_changed", [now]) => {
-                self.watch.card_changed(number(now)?);
-                told.ok()
+            "card_changed" => {
+                self.watch.card_changed(row.words.number());
+                row.told.ok();
             }
-            ("is_sdown", [now, after, of]) => {
-                let of = says(of, "master", "node")?;
-                told.yes(self.watch.is_sdown(number(now)?, number(after)?, of))
+            "is_sdown" => {
+                let (now, after) = (row.words.number(), row.words.number());
+                row.told.yes(
+                    self.watch
+                        .is_sdown(now, after, row.words.says("master", "node")),
+                );
             }
-            ("sdown_since", [now, after, of]) => {
-                let of = says(of, "master", "node")?;
-                told.maybe_number(self.watch.sdown_since(number(now)?, number(after)?, of))
+            "sdown_since" => {
+                let (now, after) = (row.words.number(), row.words.number());
+                row.told.maybe_number(
+                    self.watch
+                        .sdown_since(now, after, row.words.says("master", "node")),
+                );
             }
-            _ => self.play_others(call, words, told),
+            _ => return self.play_others(row),
         }
+        Ok(())
     }
 }

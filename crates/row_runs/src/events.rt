@@ -5,31 +5,35 @@ ghost use Rattle.ballot_law.specs.Limits.{IsWithin};
 ghost use Rattle.ballot_law.specs.Limits.{IsWithinEvent};
 
 use crate::commands::array;
-use crate::given::{addr, maybe_id, number, number_16, number_32, says, text};
 use crate::told::{Told, Unplayed};
+use crate::words::Words;
 use ballot_law::{Command, Event, NodeName, PingReply, Text};
 use resp2::command_of;
 use std::alloc::Global;
 
-/// The node that a word names by a letter and a number, as scenarios do; a client of a port, which they don't name, has
-/// `p`.
-pub(crate) fn node(word: &[u8]) -> Result<NodeName, Unplayed> {
-    match word {
-        [b's', place @ ..] => Ok(NodeName::SentinelAt(number_16(place)?)),
-        [b'd', number @ ..] => Ok(NodeName::StoreAt(number_16(number)?)),
-        [b'c', number @ ..] => Ok(NodeName::ClientAt(number_16(number)?)),
-        [b'p', number @ ..] => Ok(NodeName::PortAt(number_32(number)?)),
-        _ => Err(Unplayed::WrongWords),
+/// The node that the next word names by a letter and a number, as scenarios do; a client of a port, which they don't
+/// name, has `p`.
+pub(crate) fn node(words: &mut Words<'_>) -> NodeName {
+    let (kind, number) = words.lettered();
+    match (kind, u16::try_from(number)) {
+        ('s', Ok(place)) => NodeName::SentinelAt(place),
+        ('d', Ok(number)) => NodeName::StoreAt(number),
+        ('c', Ok(number)) => NodeName::ClientAt(number),
+        ('p', _) => NodeName::PortAt(number),
+        _ => {
+            words.wrong();
+            NodeName::PortAt(0)
+        }
     }
 }
 
 /// Tells the name of a node.
-pub(crate) fn tell_node(node: NodeName, told: &mut Told) -> Result<(), Unplayed> {
+pub(crate) fn tell_node(node: NodeName, told: &mut Told) {
     match node {
-        NodeName::SentinelAt(place) => told.signed('s', i64::from(place)),
-        NodeName::StoreAt(number) => told.signed('d', i64::from(number)),
-        NodeName::ClientAt(number) => told.signed('c', i64::from(number)),
-        NodeName::PortAt(number) => told.signed('p', i64::from(number)),
+        NodeName::SentinelAt(place) => told.signed("s", i64::from(place)),
+        NodeName::StoreAt(number) => told.signed("d", i64::from(number)),
+        NodeName::ClientAt(number) => told.signed("c", i64::from(number)),
+        NodeName::PortAt(number) => told.signed("p", i64::from(number)),
     }
 }
 
@@ -44,66 +48,82 @@ fn command(alloc: Global, words: &[Vec<u8>]) -> Result<Command, Unplayed>
 }
 
 /// What a voter says of a master: its number and address, whether it is down, and the vote that is kept.
-fn answered(words: &[Vec<u8>]) -> Result<Event, Unplayed>
+fn answered(words: &mut Words<'_>) -> Event
+    ensures { IsWithinEvent result }
+{
+    Event::Answered {
+        voter: node(words),
+        master: words.number_16(),
+        addr: words.addr(),
+        down: words.says("down", "up"),
+        leader: words.maybe_id(),
+        epoch: words.number(),
+    }
+}
+
+/// What the command of these words is, which the first client of the port sends.
+fn commanded(alloc: Global, words: &[Vec<u8>]) -> Result<Event, Unplayed>
     ensures { IfOk result IsWithinEvent }
 {
-    let [voter, master, about, down, leader, epoch] = words else {
-        return Err(Unplayed::WrongWords);
-    };
-    Ok(Event::Answered {
-        voter: node(voter)?,
-        master: number_16(master)?,
-        addr: addr(about)?,
-        down: says(down, "down", "up")?,
-        leader: maybe_id(leader)?,
-        epoch: number(epoch)?,
+    Ok(Event::Command {
+        sender: NodeName::PortAt(0),
+        command: command(alloc, words)?,
+    })
+}
+
+/// What the texts of nodes tell: INFO, or a hello.
+fn text_read(alloc: Global, kind: &str, words: &mut Words<'_>) -> Result<Event, Unplayed>
+    ensures { IfOk result IsWithinEvent }
+{
+    if kind == "hello" {
+        return Ok(Event::HelloRead {
+            text: Text::from_slice(alloc, words.bytes())?,
+        });
+    }
+    Ok(Event::InfoRead {
+        node: node(words),
+        text: Text::from_slice(alloc, words.bytes())?,
     })
 }
 
 /// What is heard of a node, or of the connection to it.
-fn of_node(kind: &str, node: NodeName) -> Result<Event, Unplayed>
-    ensures { IfOk result IsWithinEvent }
+fn of_node(kind: &str, words: &mut Words<'_>) -> Event
+    ensures { IsWithinEvent result }
 {
+    let node = node(words);
     let reply = match kind {
-        "refused" => return Ok(Event::Refused { node }),
-        "lost" => return Ok(Event::Disconnected { node }),
+        "refused" => return Event::Refused { node },
+        "lost" => return Event::Disconnected { node },
         "pong" => PingReply::Pong,
         "loading" => PingReply::Loading,
-        "noauth" => PingReply::Other,
-        _ => return Err(Unplayed::WrongWords),
+        _ => {
+            if kind != "noauth" {
+                words.wrong();
+            }
+            PingReply::Other
+        }
     };
-    Ok(Event::Pinged { node, reply })
+    Event::Pinged { node, reply }
 }
 
-/// What happens, in these words. A tick has the random number 0, and commands come from the first client of the port.
-pub(crate) fn event(alloc: Global, words: &[Vec<u8>]) -> Result<Event, Unplayed>
+/// What happens, in the next words. A tick has the random number 0, and commands come from the first client of the
+/// port.
+pub(crate) fn event(alloc: Global, words: &mut Words<'_>) -> Result<Event, Unplayed>
     ensures { IfOk result IsWithinEvent }
 {
-    let [kind, words @ ..] = words else {
-        return Err(Unplayed::WrongWords);
-    };
-    match (text(kind)?, words) {
-        ("tick", [master]) => Ok(Event::Tick {
-            master: number_16(master)?,
+    let kind = words.text();
+    match kind {
+        "tick" => Ok(Event::Tick {
+            master: words.number_16(),
             random: 0,
         }),
-        ("command", words) => Ok(Event::Command {
-            sender: NodeName::PortAt(0),
-            command: command(alloc, words)?,
-        }),
-        ("section", []) => Ok(Event::Command {
+        "command" => commanded(alloc, words.rest()),
+        "section" => Ok(Event::Command {
             sender: NodeName::PortAt(0),
             command: Command::Info,
         }),
-        ("answer", words) => answered(words),
-        ("info", [of, bytes]) => Ok(Event::InfoRead {
-            node: node(of)?,
-            text: Text::from_slice(alloc, bytes)?,
-        }),
-        ("hello", [bytes]) => Ok(Event::HelloRead {
-            text: Text::from_slice(alloc, bytes)?,
-        }),
-        (kind, [of]) => of_node(kind, node(of)?),
-        _ => Err(Unplayed::WrongWords),
+        "answer" => Ok(answered(words)),
+        "info" | "hello" => text_read(alloc, kind, words),
+        _ => Ok(of_node(kind, words)),
     }
 }

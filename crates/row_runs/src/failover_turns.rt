@@ -1,7 +1,7 @@
 //! The failover of one master, and what the Sentinel knows at its turns.
 
-use crate::given::{id, maybe_id, number, number_16, number_32, says, text};
 use crate::told::{Told, Unplayed};
+use crate::words::{self, Words};
 use ballot_law::{Addr, RunId};
 use failover_states::{Facts, Failover, FailoverState, Row};
 use std::alloc::Global;
@@ -81,6 +81,11 @@ fn row_name(row: Option<Row>) -> &'static str {
     }
 }
 
+/// The best replica, if there is one.
+fn best_if(is_there: bool) -> Option<(u16, Addr)> {
+    if is_there { FACTS.best } else { None }
+}
+
 /// Tells the places of the replicas that the last turn gave an order.
 fn tell_ordered(failover: &Failover, told: &mut Told) -> Result<(), Unplayed> {
     let mut is_none = true;
@@ -89,58 +94,54 @@ fn tell_ordered(failover: &Failover, told: &mut Told) -> Result<(), Unplayed> {
             return Err(Unplayed::OutOfRange);
         };
         if failover.ordered(place) {
-            told.number(u64::from(place))?;
+            told.number(u64::from(place));
             is_none = false;
         }
     }
     if is_none {
-        return told.word("None");
+        told.word("None");
     }
     Ok(())
 }
 
 /// Tells the configuration that the promotion brings.
-fn tell_promoted(failover: &mut Failover, told: &mut Told) -> Result<(), Unplayed> {
+fn tell_promoted(failover: &mut Failover, told: &mut Told) {
     match failover.promoted() {
         Some(card) => {
-            told.number(card.epoch)?;
-            told.address(card.addr)
+            told.number(card.epoch);
+            told.address(card.addr);
         }
         None => told.word("None"),
     }
 }
 
 /// Tells what comes of a call of a failover but a turn.
-fn play_failover(
-    failover: &mut Failover,
-    call: &str,
-    words: &[Vec<u8>],
-    told: &mut Told,
-) -> Result<(), Unplayed> {
-    match (call, words) {
-        ("state", []) => told.word(state_name(failover.state())),
-        ("epoch", []) => told.maybe_number(failover.epoch()),
-        ("choice", []) => told.maybe_number(failover.choice().map(u64::from)),
-        ("ordered", []) => tell_ordered(failover, told),
-        ("mark", [now]) => {
-            failover.mark(number(now)?);
-            told.ok()
+fn play_failover(row: &mut words::Row<'_>, failover: &mut Failover) -> Result<(), Unplayed> {
+    match row.call {
+        "state" => row.told.word(state_name(failover.state())),
+        "epoch" => row.told.maybe_number(failover.epoch()),
+        "choice" => row.told.maybe_number(failover.choice().map(u64::from)),
+        "ordered" => return tell_ordered(failover, &mut row.told),
+        "mark" => {
+            failover.mark(row.words.number());
+            row.told.ok();
         }
-        ("at", [now]) => {
-            failover.at(number(now)?);
-            told.ok()
+        "at" => {
+            failover.at(row.words.number());
+            row.told.ok();
         }
-        ("promoted", []) => tell_promoted(failover, told),
-        ("reconf", [place, now]) => {
-            failover.reconf(number_16(place)?, number(now)?);
-            told.ok()
+        "promoted" => tell_promoted(failover, &mut row.told),
+        "reconf" => {
+            failover.reconf(row.words.number_16(), row.words.number());
+            row.told.ok();
         }
-        ("end", []) => {
+        "end" => {
             failover.end();
-            told.ok()
+            row.told.ok();
         }
-        _ => Err(Unplayed::NoSuchCall),
+        _ => return Err(Unplayed::NoSuchCall),
     }
+    Ok(())
 }
 
 impl Turns {
@@ -164,10 +165,10 @@ impl Turns {
     }
 
     /// The nodes at these places are down, and no others.
-    fn know_down(&mut self, places: &[Vec<u8>]) -> Result<(), Unplayed> {
+    fn know_down(&mut self, words: &mut Words<'_>) -> Result<(), Unplayed> {
         self.down.clear();
-        for place in places {
-            let place = usize::from(number_16(place)?);
+        for _ in 0..words.count() {
+            let place = usize::from(words.number_16());
             for _ in self.down.len()..=place {
                 self.down.push(false)?;
             }
@@ -178,26 +179,26 @@ impl Turns {
         Ok(())
     }
 
-    /// A fact is this from now on.
-    fn know(&mut self, fact: &[u8], value: &[u8]) -> Result<(), Unplayed> {
+    /// The fact that the first word names is this from now on.
+    fn know(&mut self, words: &mut Words<'_>) -> Result<(), Unplayed> {
+        let fact = words.text();
+        if fact == "down" {
+            return self.know_down(words);
+        }
         let known = &mut self.known;
-        match text(fact)? {
-            "odown" => known.odown = says(value, "true", "false")?,
-            "current" => known.current = number(value)?,
-            "voted" => known.voted = number(value)?,
-            "own" => known.own = maybe_id(value)?,
-            "need" => known.need = number_32(value)?,
-            "pick" => known.pick = id(value)?,
-            "count" => known.count = number_32(value)?,
-            "best" => known.best = if says(value, "true", "false")? {
-                FACTS.best
-            } else {
-                None
-            },
-            "card" => known.card_place = number_16(value)?,
-            "timeout" => known.timeout = number(value)?,
-            "syncs" => known.parallel_syncs = number(value)?,
-            "random" => known.random = number(value)?,
+        match fact {
+            "odown" => known.odown = words.says("true", "false"),
+            "current" => known.current = words.number(),
+            "voted" => known.voted = words.number(),
+            "own" => known.own = words.maybe_id(),
+            "need" => known.need = words.number_32(),
+            "pick" => known.pick = words.id(),
+            "count" => known.count = words.number_32(),
+            "best" => known.best = best_if(words.says("true", "false")),
+            "card" => known.card_place = words.number_16(),
+            "timeout" => known.timeout = words.number(),
+            "syncs" => known.parallel_syncs = words.number(),
+            "random" => known.random = words.number(),
             _ => return Err(Unplayed::WrongWords),
         }
         Ok(())
@@ -215,35 +216,27 @@ impl Turns {
         Ok(act.row)
     }
 
+    /// Tells what comes of a call of the failover that has begun, but a turn.
+    fn play_begun(&mut self, row: &mut words::Row<'_>) -> Result<(), Unplayed> {
+        let failover = self.failover.as_mut().ok_or(Unplayed::OutOfRange)?;
+        play_failover(row, failover)
+    }
+
     /// Tells what comes of a call with these words.
-    pub(crate) fn play(
-        &mut self,
-        call: &str,
-        words: &[Vec<u8>],
-        told: &mut Told,
-    ) -> Result<(), Unplayed> {
-        match (call, words) {
-            ("failover", [nodes]) => {
-                self.begin(number_16(nodes)?)?;
-                told.ok()
+    pub(crate) fn play(&mut self, row: &mut words::Row<'_>) -> Result<(), Unplayed> {
+        match row.call {
+            "failover" => {
+                self.begin(row.words.number_16())?;
+                row.told.ok();
             }
-            ("know", [fact, places @ ..]) if fact.as_slice() == b"down".as_slice() => {
-                self.know_down(places)?;
-                told.ok()
+            "know" => {
+                self.know(&mut row.words)?;
+                row.told.ok();
             }
-            ("know", [fact, value]) => {
-                self.know(fact, value)?;
-                told.ok()
-            }
-            ("turn", [now]) => {
-                let row = self.turn(number(now)?)?;
-                told.word(row_name(row))
-            }
-            ("vote", []) => told.maybe_id(self.vote),
-            _ => {
-                let failover = self.failover.as_mut().ok_or(Unplayed::OutOfRange)?;
-                play_failover(failover, call, words, told)
-            }
+            "turn" => row.told.word(row_name(self.turn(row.words.number())?)),
+            "vote" => row.told.maybe_id(self.vote),
+            _ => return self.play_begun(row),
         }
+        Ok(())
     }
 }

@@ -3,27 +3,26 @@
 ghost use Rattle.std.specs.Prelude.{IfOk, IfSome};
 ghost use Rattle.resp2.specs.Framing.Frame.{view, HasLines};
 
-use crate::given::number;
 use crate::told::{Told, Unplayed};
+use crate::words::Row;
 use resp2::{FrameFault, Frames, OutText, Value, values_of_pieces, write_value};
 use std::alloc::Global;
 
 /// Tells a value: a line, an integer or a bulk string after the byte of its kind, and an array as how many items it has
 /// and then those.
-pub(crate) fn tell_value(value: &Value, told: &mut Told) -> Result<(), Unplayed> {
+pub(crate) fn tell_value(value: &Value, told: &mut Told) {
     match value {
-        Value::Simple(text) => told.marked('+', text.as_slice()),
-        Value::Fault(text) => told.marked('-', text.as_slice()),
-        Value::Int(number) => told.signed(':', *number),
-        Value::Bulk(text) => told.marked('$', text.as_slice()),
+        Value::Simple(text) => told.marked("+", text.as_slice()),
+        Value::Fault(text) => told.marked("-", text.as_slice()),
+        Value::Int(number) => told.signed(":", *number),
+        Value::Bulk(text) => told.marked("$", text.as_slice()),
         Value::NullBulk => told.word("NullBulk"),
         Value::NullItems => told.word("NullItems"),
         Value::Items(items) => {
-            told.signed('*', items.len() as i64)?;
+            told.signed("*", items.len() as i64);
             for item in items {
-                tell_value(item, told)?;
+                tell_value(item, told);
             }
-            Ok(())
         }
     }
 }
@@ -55,15 +54,14 @@ pub(crate) fn next(frames: &mut Frames) -> Result<Option<Value>, FrameFault>
 }
 
 /// Tells the values that are whole, and then that more bytes are asked for, or the fault.
-fn tell_whole(frames: &mut Frames, told: &mut Told) -> Result<(), Unplayed> {
+fn tell_whole(frames: &mut Frames, told: &mut Told) {
     for _ in 0..u64::MAX {
         match next(frames) {
-            Ok(Some(value)) => tell_value(&value, told)?,
+            Ok(Some(value)) => tell_value(&value, told),
             Ok(None) => return told.word("more"),
             Err(fault) => return told.shown(&fault),
         }
     }
-    Ok(())
 }
 
 /// Tells what a reader gives after each of these pieces, and with which fault it refuses one.
@@ -71,9 +69,9 @@ fn tell_pieces(alloc: Global, pieces: &[Vec<u8>], told: &mut Told) -> Result<(),
     let mut frames = Frames::new(alloc);
     for piece in pieces {
         if let Err(fault) = feed(&mut frames, piece) {
-            told.shown(&fault)?;
+            told.shown(&fault);
         }
-        tell_whole(&mut frames, told)?;
+        tell_whole(&mut frames, told);
     }
     Ok(())
 }
@@ -85,7 +83,7 @@ fn tell_beginnings(alloc: Global, bytes: &[u8], told: &mut Told) -> Result<(), U
         if feed(&mut frames, &bytes[..end]).is_err() {
             return Err(Unplayed::Changed);
         }
-        tell_whole(&mut frames, told)?;
+        tell_whole(&mut frames, told);
     }
     Ok(())
 }
@@ -102,17 +100,19 @@ fn tell_by_bytes(alloc: Global, bytes: &[u8], told: &mut Told) -> Result<(), Unp
         match next(&mut frames) {
             Ok(None) => asked = asked.saturating_add(1),
             Ok(Some(value)) => {
-                told.number(asked)?;
-                tell_value(&value, told)?;
+                told.number(asked);
+                tell_value(&value, told);
                 asked = 0;
             }
             Err(fault) => {
-                told.number(asked)?;
-                return told.shown(&fault);
+                told.number(asked);
+                told.shown(&fault);
+                return Ok(());
             }
         }
     }
-    tell_whole(&mut frames, told)
+    tell_whole(&mut frames, told);
+    Ok(())
 }
 
 /// The same, as many times as that; it is told once, and another answer to the same bytes after it.
@@ -121,21 +121,24 @@ fn tell_rounds(alloc: Global, rounds: u64, bytes: &[u8], told: &mut Told) -> Res
     for _ in 1..rounds {
         let mut again = Told::new(alloc);
         tell_by_bytes(alloc, bytes, &mut again)?;
+        if again.is_cut() {
+            return Err(Unplayed::NoMemory);
+        }
         if again.as_str() != told.as_str() {
-            return told.word(again.as_str());
+            told.word(again.as_str());
+            return Ok(());
         }
     }
     Ok(())
 }
 
 /// Tells the values of a stream in these pieces.
-fn tell_values(alloc: Global, pieces: &[Vec<u8>], told: &mut Told) -> Result<(), Unplayed> {
+fn tell_values(alloc: Global, pieces: &[Vec<u8>], told: &mut Told) {
     match values_of_pieces(alloc, pieces) {
         Ok(values) => {
             for value in values.as_slice() {
-                tell_value(value, told)?;
+                tell_value(value, told);
             }
-            Ok(())
         }
         Err(fault) => told.shown(&fault),
     }
@@ -147,7 +150,8 @@ fn tell_halves(alloc: Global, bytes: &[u8], place: usize, told: &mut Told) -> Re
     let mut pieces = Vec::new(alloc);
     pieces.push(Vec::from_slice(alloc, front)?)?;
     pieces.push(Vec::from_slice(alloc, back)?)?;
-    tell_values(alloc, &pieces, told)
+    tell_values(alloc, &pieces, told);
+    Ok(())
 }
 
 /// Tells the values of a stream, if they are the same wherever it is cut in two.
@@ -156,10 +160,14 @@ fn tell_cuts(alloc: Global, bytes: &[u8], told: &mut Told) -> Result<(), Unplaye
     for place in 1..bytes.len() {
         let mut again = Told::new(alloc);
         tell_halves(alloc, bytes, place, &mut again)?;
+        if again.is_cut() {
+            return Err(Unplayed::NoMemory);
+        }
         if again.as_str() != told.as_str() {
-            told.word("and cut at")?;
-            told.number(place as u64)?;
-            return told.word(again.as_str());
+            told.word("and cut at");
+            told.number(place as u64);
+            told.word(again.as_str());
+            return Ok(());
         }
     }
     Ok(())
@@ -200,6 +208,13 @@ fn written_again(alloc: Global, size: usize, bytes: &[u8]) -> Result<OutText, Un
     Ok(text)
 }
 
+/// Tells what is written of the values of these bytes, which come in pieces of this size.
+fn tell_written(alloc: Global, size: usize, bytes: &[u8], told: &mut Told) -> Result<(), Unplayed> {
+    let text = written_again(alloc, size, bytes)?;
+    told.bytes(text.as_slice());
+    Ok(())
+}
+
 /// Adds bytes one at a time, each once more where that lacked memory.
 fn add_by_bytes(text: &mut OutText, bytes: &[u8]) -> Result<(), Unplayed> {
     for byte in bytes {
@@ -220,33 +235,43 @@ fn tell_parts(
 ) -> Result<(), Unplayed> {
     let mut text = written_again(alloc, bytes.len(), bytes)?;
     add_by_bytes(&mut text, others)?;
-    told.number(text.len() as u64)?;
+    told.number(text.len() as u64);
     text.truncate(len);
-    told.bytes(text.as_slice())?;
+    told.bytes(text.as_slice());
     text.clear();
-    told.bytes(text.as_slice())
+    told.bytes(text.as_slice());
+    Ok(())
 }
 
 /// Tells what comes of a call with these words.
-pub(crate) fn play(
-    alloc: Global,
-    call: &str,
-    words: &[Vec<u8>],
-    told: &mut Told,
-) -> Result<(), Unplayed> {
-    match (call, words) {
-        ("next", pieces) => tell_pieces(alloc, pieces, told),
-        ("next_each_beginning", [bytes]) => tell_beginnings(alloc, bytes, told),
-        ("next_by_bytes", [rounds, bytes]) => tell_rounds(alloc, number(rounds)?, bytes, told),
-        ("values_of_pieces", pieces) => tell_values(alloc, pieces, told),
-        ("values_of_two_pieces", [bytes]) => tell_cuts(alloc, bytes, told),
-        ("write_value", [size, bytes]) => {
-            let text = written_again(alloc, number(size)? as usize, bytes)?;
-            told.bytes(text.as_slice())
+pub(crate) fn play(row: &mut Row<'_>) -> Result<(), Unplayed> {
+    match row.call {
+        "next" => tell_pieces(row.alloc, row.words.rest(), &mut row.told),
+        "next_each_beginning" => tell_beginnings(row.alloc, row.words.bytes(), &mut row.told),
+        "next_by_bytes" => tell_rounds(
+            row.alloc,
+            row.words.number(),
+            row.words.bytes(),
+            &mut row.told,
+        ),
+        "values_of_pieces" => {
+            tell_values(row.alloc, row.words.rest(), &mut row.told);
+            Ok(())
         }
-        ("out_text", [bytes, others, len]) => {
-            tell_parts(alloc, bytes, others, number(len)? as usize, told)
-        }
+        "values_of_two_pieces" => tell_cuts(row.alloc, row.words.bytes(), &mut row.told),
+        "write_value" => tell_written(
+            row.alloc,
+            row.words.size(),
+            row.words.bytes(),
+            &mut row.told,
+        ),
+        "out_text" => tell_parts(
+            row.alloc,
+            row.words.bytes(),
+            row.words.bytes(),
+            row.words.size(),
+            &mut row.told,
+        ),
         _ => Err(Unplayed::NoSuchCall),
     }
 }

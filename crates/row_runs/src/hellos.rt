@@ -4,6 +4,7 @@ ghost use Rattle.std.specs.Prelude.{IfOk};
 ghost use Rattle.ballot_law.specs.Hellos.{IsHello};
 
 use crate::told::{Told, Unplayed};
+use crate::words::Row;
 use ballot_law::Hello;
 use node_texts::{TextFault, read_hello, write_hello};
 use resp2::OutText;
@@ -17,17 +18,17 @@ fn said(bytes: &[u8]) -> Result<Hello, TextFault>
 }
 
 /// Tells a hello.
-fn tell(hello: &Hello, told: &mut Told) -> Result<(), Unplayed> {
-    told.address(hello.addr)?;
-    told.maybe_id(Some(hello.id))?;
-    told.number(hello.current)?;
-    told.bytes(hello.master.as_slice())?;
-    told.address(hello.card.addr)?;
-    told.number(hello.card.epoch)
+fn tell(hello: &Hello, told: &mut Told) {
+    told.address(hello.addr);
+    told.id(hello.id);
+    told.number(hello.current);
+    told.bytes(hello.master.as_slice());
+    told.address(hello.card.addr);
+    told.number(hello.card.epoch);
 }
 
 /// Tells what these bytes say, or their fault.
-fn tell_said(bytes: &[u8], told: &mut Told) -> Result<(), Unplayed> {
+fn tell_said(bytes: &[u8], told: &mut Told) {
     match said(bytes) {
         Ok(hello) => tell(&hello, told),
         Err(fault) => told.shown(&fault),
@@ -43,28 +44,24 @@ fn tell_written(alloc: Global, bytes: &[u8], told: &mut Told) -> Result<(), Unpl
     if write_hello(&hello, &mut text).is_err() && write_hello(&hello, &mut text).is_err() {
         return Err(Unplayed::Changed);
     }
-    told.bytes(text.as_slice())
-}
-
-/// Tells what each beginning of these bytes says, from none of them to all but the last.
-fn tell_beginnings(bytes: &[u8], told: &mut Told) -> Result<(), Unplayed> {
-    for end in 0..bytes.len() {
-        tell_said(&bytes[..end], told)?;
-    }
+    told.bytes(text.as_slice());
     Ok(())
 }
 
-/// Tells what comes of a call with these words.
-pub(crate) fn play(
-    alloc: Global,
-    call: &str,
-    words: &[Vec<u8>],
-    told: &mut Told,
-) -> Result<(), Unplayed> {
-    match (call, words) {
-        ("read_hello", [bytes]) => tell_said(bytes, told),
-        ("read_each_beginning", [bytes]) => tell_beginnings(bytes, told),
-        ("write_hello", [bytes]) => tell_written(alloc, bytes, told),
-        _ => Err(Unplayed::NoSuchCall),
+/// Tells what each beginning of these bytes says, from none of them to all but the last.
+fn tell_beginnings(bytes: &[u8], told: &mut Told) {
+    for end in 0..bytes.len() {
+        tell_said(&bytes[..end], told);
     }
+}
+
+/// Tells what comes of a call with these words.
+pub(crate) fn play(row: &mut Row<'_>) -> Result<(), Unplayed> {
+    match row.call {
+        "read_hello" => tell_said(row.words.bytes(), &mut row.told),
+        "read_each_beginning" => tell_beginnings(row.words.bytes(), &mut row.told),
+        "write_hello" => return tell_written(row.alloc, row.words.bytes(), &mut row.told),
+        _ => return Err(Unplayed::NoSuchCall),
+    }
+    Ok(())
 }

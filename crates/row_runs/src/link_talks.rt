@@ -1,8 +1,9 @@
 //! Conversations with a node on a connection that a Sentinel opened: what is asked, and what each reply tells.
 
 use crate::events::node;
-use crate::message_rows::{message, tell_event};
+use crate::message_rows::{between_sentinels, tell_event};
 use crate::told::{Told, Unplayed};
+use crate::words::{Row, Words};
 use links::{LinkFault, LinkSession};
 use std::alloc::Global;
 
@@ -11,7 +12,8 @@ fn tell_fault(fault: LinkFault, told: &mut Told) -> Result<(), Unplayed> {
     if fault == LinkFault::NoMemory {
         return Err(Unplayed::NoMemory);
     }
-    told.shown(&fault)
+    told.shown(&fault);
+    Ok(())
 }
 
 /// Orders a command of these words.
@@ -26,19 +28,31 @@ fn order(alloc: Global, session: &mut LinkSession, words: &[Vec<u8>]) -> Result<
 }
 
 /// Asks what these words say: a command after `Order`, or what a message says.
+fn asked(
+    alloc: Global,
+    session: &mut LinkSession,
+    words: &[Vec<u8>],
+) -> Result<Result<(), LinkFault>, Unplayed> {
+    let mut rest = Words::of(words);
+    if rest.text() == "Order" {
+        return Ok(order(alloc, session, rest.rest()));
+    }
+    let mut said = Words::of(words);
+    let message = between_sentinels(alloc, &mut said)?;
+    if !said.were_read() {
+        return Err(Unplayed::WrongWords);
+    }
+    Ok(session.ask(&message))
+}
+
+/// Asks it, and tells a fault.
 fn ask(
     alloc: Global,
     session: &mut LinkSession,
     words: &[Vec<u8>],
     told: &mut Told,
 ) -> Result<(), Unplayed> {
-    let asked = match words {
-        [kind, words @ ..] if kind.as_slice() == b"Order".as_slice() => {
-            order(alloc, session, words)
-        }
-        words => session.ask(&message(alloc, b"s0", b"s1", words)?),
-    };
-    match asked {
+    match asked(alloc, session, words)? {
         Ok(()) => Ok(()),
         Err(fault) => tell_fault(fault, told),
     }
@@ -65,33 +79,27 @@ fn hear(
         "waits"
     } else {
         "idle"
-    })
+    });
+    Ok(())
 }
 
 /// Tells what comes of a call with these words: the node, the questions with a word `,` between two, and after a word
 /// `then` the pieces that it sends.
-pub(crate) fn play(
-    alloc: Global,
-    call: &str,
-    words: &[Vec<u8>],
-    told: &mut Told,
-) -> Result<(), Unplayed> {
-    let [name, words @ ..] = words else {
-        return Err(Unplayed::WrongWords);
-    };
-    let mut parts = words.split(|word| word.as_slice() == b"then".as_slice());
-    let asks = parts.next().unwrap_or(&[]);
-    let pieces = parts.next().unwrap_or(&[]);
-    let mut session = match call {
-        "asks" | "hears" => LinkSession::new(alloc, node(name)?),
-        "listens" => LinkSession::listening(alloc, node(name)?),
+pub(crate) fn play(row: &mut Row<'_>) -> Result<(), Unplayed> {
+    let mut session = match row.call {
+        "asks" | "hears" => LinkSession::new(row.alloc, node(&mut row.words)),
+        "listens" => LinkSession::listening(row.alloc, node(&mut row.words)),
         _ => return Err(Unplayed::NoSuchCall),
     };
-    for words in asks.split(|word| word.as_slice() == b",".as_slice()) {
-        ask(alloc, &mut session, words, told)?;
+    let mut asks = Words::of(row.words.up_to("then"));
+    for _ in 0..asks.count() {
+        if asks.count() > 0 {
+            ask(row.alloc, &mut session, asks.up_to(","), &mut row.told)?;
+        }
     }
-    if call == "asks" {
-        return told.bytes(session.unsent());
+    if row.call == "asks" {
+        row.told.bytes(session.unsent());
+        return Ok(());
     }
-    hear(alloc, &mut session, pieces, told)
+    hear(row.alloc, &mut session, row.words.rest(), &mut row.told)
 }

@@ -22,7 +22,6 @@ mod down_states;
 mod events;
 mod failover_turns;
 mod frames;
-mod given;
 mod hellos;
 mod infos;
 mod link_talks;
@@ -40,48 +39,41 @@ mod stores;
 mod told;
 mod votes_and_elections;
 mod watch_confs;
+mod words;
 mod words_and_numbers;
 mod writable;
 
 use crate::spelling::{add_spelling, bytes_of, written_out};
 use crate::stages::Stage;
 use crate::told::{Told, Unplayed};
+use crate::words::{Row, Words};
 use std::io::ErrorKind;
 use std::sync::Wait;
 use std::{env, fs, io};
 
-/// Tells what comes of a call with these words, of a family each of whose rows is by itself. The family is the name of
-/// the row's file.
-fn play(
-    rt: &HostRuntime,
-    family: &str,
-    call: &str,
-    words: &[Vec<u8>],
-    told: &mut Told,
-) -> Result<(), Unplayed> {
+/// Plays a row of a family each of whose rows is by itself. The family is the name of the row's file.
+fn play(rt: &HostRuntime, family: &str, row: &mut Row<'_>) -> Result<(), Unplayed> {
     match family {
-        "answers" => answers::play(rt.alloc(), call, words, told),
-        "channels" => channels::play(rt.alloc(), call, words, told),
-        "conf_files" => conf_files::play(rt.alloc(), call, words, told),
-        "commands" => commands::play(rt.alloc(), call, words, told),
-        "checked_files" => checked_files::play(rt.alloc(), call, words, told),
-        "courtesies" => courtesies::play(rt.alloc(), call, words, told),
-        "frames" | "long_frames" => frames::play(rt.alloc(), call, words, told),
-        "hellos" => hellos::play(rt.alloc(), call, words, told),
-        "infos" => infos::play(rt.alloc(), call, words, told),
-        "link_talks" => link_talks::play(rt.alloc(), call, words, told),
+        "answers" => answers::play(row),
+        "channels" => channels::play(row),
+        "conf_files" => conf_files::play(row),
+        "commands" => commands::play(row),
+        "checked_files" => checked_files::play(row),
+        "courtesies" => courtesies::play(row),
+        "frames" | "long_frames" => frames::play(row),
+        "hellos" => hellos::play(row),
+        "infos" => infos::play(row),
+        "link_talks" => link_talks::play(row),
         "message_bytes" | "message_lines" | "comments" | "deliveries_to_nodes" => {
-            message_rows::play(rt.alloc(), call, words, told)
+            message_rows::play(row)
         }
-        "node_talks" => node_talks::play(rt.alloc(), call, words, told),
-        "rosters" => rosters::play(rt.alloc(), call, words, told),
-        "scenario_lines" => scenario_lines::play(rt.alloc(), call, words, told),
-        "memory_stores" | "file_stores" | "refused_stores" => {
-            stores::play(rt, call, words, told)
-        }
-        "roles" => roles::play(rt.alloc(), call, words, told),
-        "watch_confs" => watch_confs::play(rt.alloc(), call, words, told),
-        "words_and_numbers" => words_and_numbers::play(rt.alloc(), call, words, told),
+        "node_talks" => node_talks::play(row),
+        "rosters" => rosters::play(row),
+        "scenario_lines" => scenario_lines::play(row),
+        "memory_stores" | "file_stores" | "refused_stores" => stores::play(row, rt),
+        "roles" => roles::play(row),
+        "watch_confs" => watch_confs::play(row),
+        "words_and_numbers" => words_and_numbers::play(row),
         _ => Err(Unplayed::NoSuchFamily),
     }
 }
@@ -140,26 +132,28 @@ fn play_row<R: Wait>(
     wait: &R,
     family: &str,
     stage: &mut Stage,
-    row: &str,
+    line: &str,
 ) -> Result<Played, Unplayed> {
-    let row = written_out(rt.alloc(), row)?;
-    let Some((front, back)) = row.as_str().split_once(" => ") else {
+    let line = written_out(rt.alloc(), line)?;
+    let Some((front, back)) = line.as_str().split_once(" => ") else {
         return Err(Unplayed::NoArrow);
     };
     let wanted = wanted_of(rt, back)?;
     let words = words_of(rt, front)?;
-    let call = front.split(' ').next().unwrap_or("");
-    let mut came = Told::with_room(rt.alloc())?;
+    let mut row = Row {
+        alloc: rt.alloc(),
+        call: front.split(' ').next().unwrap_or(""),
+        words: Words::of(&words),
+        told: Told::with_room(rt.alloc())?,
+    };
     if matches!(stage, Stage::NotSet) {
         *stage = Stage::of(rt.alloc(), family)?;
     }
     match stage {
-        Stage::Empty => play(rt, family, call, &words, &mut came)?,
-        stage => stage.play(wait, call, &words, &mut came)?,
+        Stage::Empty => play(rt, family, &mut row)?,
+        stage => stage.play(&mut row, wait)?,
     }
-    if came.as_str().is_empty() {
-        return Err(Unplayed::NothingTold);
-    }
+    let came = row.end()?;
     Ok(Played { came, wanted })
 }
 

@@ -8,8 +8,8 @@ use crate::bodies::body;
 use crate::commands::{tell_command, value_of};
 use crate::events::{node, tell_node};
 use crate::frames::tell_value;
-use crate::given::number;
 use crate::told::{Told, Unplayed};
+use crate::words::{Row, Words};
 use crate::writable::can_write;
 use ballot_law::{Body, Event, Message, NodeName, Output, PingReply, Roster, Shown};
 use fault_world::{add_comment, add_message};
@@ -18,28 +18,27 @@ use resp2::OutText;
 use std::alloc::Global;
 
 /// Tells the configurations that an answer shows: the number of the master, the epoch and the address of each.
-fn tell_shown(shown: &[Shown], told: &mut Told) -> Result<(), Unplayed> {
+fn tell_shown(shown: &[Shown], told: &mut Told) {
     if !shown.is_empty() {
-        told.word("shows")?;
+        told.word("shows");
     }
     for one in shown {
-        told.number(u64::from(one.master))?;
-        told.number(one.card.epoch)?;
-        told.address(one.card.addr)?;
+        told.number(u64::from(one.master));
+        told.number(one.card.epoch);
+        told.address(one.card.addr);
     }
-    Ok(())
 }
 
 /// Tells what a message says besides its bytes: the master that an answer is about, the configurations that it shows.
-fn tell_unwritten(body: &Body, told: &mut Told) -> Result<(), Unplayed> {
+fn tell_unwritten(body: &Body, told: &mut Told) {
     match body {
         Body::Answer { master, .. } => {
-            told.word("about")?;
-            told.number(u64::from(*master))
+            told.word("about");
+            told.number(u64::from(*master));
         }
         Body::AddressAnswer(Some(shown)) => tell_shown(&[*shown], told),
         Body::PortReply { shown, .. } => tell_shown(shown.as_slice(), told),
-        _ => Ok(()),
+        _ => {}
     }
 }
 
@@ -60,9 +59,10 @@ pub(crate) fn tell_message(
     told: &mut Told,
 ) -> Result<(), Unplayed> {
     let text = bytes_of(alloc, message)?;
-    tell_node(message.target, told)?;
-    tell_value(&value_of(alloc, text.as_slice())?, told)?;
-    tell_unwritten(&message.body, told)
+    tell_node(message.target, told);
+    tell_value(&value_of(alloc, text.as_slice())?, told);
+    tell_unwritten(&message.body, told);
+    Ok(())
 }
 
 /// Whether an output is a message that a Sentinel sends again and again: PING, INFO, a hello.
@@ -95,42 +95,70 @@ pub(crate) fn tell_output(
         Output::Send(message) => tell_message(alloc, message, told),
         Output::Tell(note) => {
             let master = roster.masters().get(usize::from(note.master));
-            told.word("+switch-master")?;
-            told.bytes(master.ok_or(Unplayed::OutOfRange)?.name.as_slice())?;
-            told.address(note.old)?;
-            told.address(note.card.addr)
+            told.word("+switch-master");
+            told.bytes(master.ok_or(Unplayed::OutOfRange)?.name.as_slice());
+            told.address(note.old);
+            told.address(note.card.addr);
+            Ok(())
         }
     }
 }
 
 /// Tells the first text with comments after it.
-fn tell_comments(alloc: Global, words: &[Vec<u8>], told: &mut Told) -> Result<(), Unplayed> {
-    let [first, comments @ ..] = words else {
-        return Err(Unplayed::WrongWords);
-    };
-    let mut text = OutText::new(alloc);
-    text.add(first)?;
-    for comment in comments {
+fn tell_comments(row: &mut Row<'_>) -> Result<(), Unplayed> {
+    let mut text = OutText::new(row.alloc);
+    text.add(row.words.bytes())?;
+    for comment in row.words.rest() {
         add_comment(&mut text, comment)?;
     }
-    told.bytes(text.as_slice())
+    row.told.bytes(text.as_slice());
+    Ok(())
 }
 
 /// The message of a sender to a target that says this.
-pub(crate) fn message(
+fn message(
     alloc: Global,
-    sender: &[u8],
-    target: &[u8],
-    words: &[Vec<u8>],
+    sender: NodeName,
+    target: NodeName,
+    words: &mut Words<'_>,
 ) -> Result<Message, Unplayed>
     ensures within { IfOk result (λ message. IsWithinBody message.body) }
     ensures writable { IfOk result (λ message. IsWritable message.body) }
 {
     Ok(Message {
-        sender: node(sender)?,
-        target: node(target)?,
+        sender,
+        target,
         body: body(alloc, words)?,
     })
+}
+
+/// The message that says this, of the first Sentinel to the second.
+pub(crate) fn between_sentinels(alloc: Global, words: &mut Words<'_>) -> Result<Message, Unplayed>
+    ensures within { IfOk result (λ message. IsWithinBody message.body) }
+    ensures writable { IfOk result (λ message. IsWritable message.body) }
+{
+    message(
+        alloc,
+        NodeName::SentinelAt(0),
+        NodeName::SentinelAt(1),
+        words,
+    )
+}
+
+/// The message of a sender to a target, which are the first two words, that says what the others are.
+fn named_message(alloc: Global, words: &mut Words<'_>) -> Result<Message, Unplayed>
+    ensures within { IfOk result (λ message. IsWithinBody message.body) }
+    ensures writable { IfOk result (λ message. IsWritable message.body) }
+{
+    let (sender, target) = (node(words), node(words));
+    message(alloc, sender, target, words)
+}
+
+/// Tells the bytes of a message.
+fn tell_bytes(row: &mut Row<'_>) -> Result<(), Unplayed> {
+    let message = between_sentinels(row.alloc, &mut row.words)?;
+    row.told.bytes(bytes_of(row.alloc, &message)?.as_slice());
+    Ok(())
 }
 
 /// The name of what an answer to a PING counts as.
@@ -144,8 +172,8 @@ fn reply_name(reply: PingReply) -> &'static str {
 }
 
 /// Tells what a voter says of a master, if the event is that.
-fn tell_answered(event: &Event, told: &mut Told) -> Result<(), Unplayed> {
-    let Event::Answered {
+fn tell_answered(event: &Event, told: &mut Told) {
+    if let Event::Answered {
         voter,
         master,
         addr,
@@ -153,125 +181,103 @@ fn tell_answered(event: &Event, told: &mut Told) -> Result<(), Unplayed> {
         leader,
         epoch,
     } = event
-    else {
-        return Err(Unplayed::WrongWords);
-    };
-    told.word("Answered")?;
-    tell_node(*voter, told)?;
-    told.number(u64::from(*master))?;
-    told.address(*addr)?;
-    told.word(if *down { "down" } else { "up" })?;
-    told.maybe_id(*leader)?;
-    told.number(*epoch)
+    {
+        told.word("Answered");
+        tell_node(*voter, told);
+        told.number(u64::from(*master));
+        told.address(*addr);
+        told.word(if *down { "down" } else { "up" });
+        told.maybe_id(*leader);
+        told.number(*epoch);
+    }
+}
+
+/// Tells the name of an event and the node that it is of.
+fn tell_of(name: &str, node: NodeName, told: &mut Told) {
+    told.word(name);
+    tell_node(node, told);
 }
 
 /// Tells an event that a message becomes.
 pub(crate) fn tell_event(alloc: Global, event: &Event, told: &mut Told) -> Result<(), Unplayed> {
     match event {
         Event::Command { sender, command } => {
-            told.word("Command")?;
-            tell_node(*sender, told)?;
-            tell_command(command, told)
+            tell_of("Command", *sender, told);
+            tell_command(command, told);
         }
         Event::Pinged { node, reply } => {
-            told.word("Pinged")?;
-            tell_node(*node, told)?;
-            told.word(reply_name(*reply))
+            tell_of("Pinged", *node, told);
+            told.word(reply_name(*reply));
         }
         Event::Answered { .. } => tell_answered(event, told),
         Event::InfoRead { node, text } => {
-            told.word("InfoRead")?;
-            tell_node(*node, told)?;
-            told.bytes(text.as_slice())
+            tell_of("InfoRead", *node, told);
+            told.bytes(text.as_slice());
         }
         Event::HelloRead { text } => {
-            told.word("HelloRead")?;
-            told.bytes(text.as_slice())
+            told.word("HelloRead");
+            told.bytes(text.as_slice());
         }
-        Event::Refused { node } => {
-            told.word("Refused")?;
-            tell_node(*node, told)
-        }
-        Event::Disconnected { node } => {
-            told.word("Disconnected")?;
-            tell_node(*node, told)
-        }
+        Event::Refused { node } => tell_of("Refused", *node, told),
+        Event::Disconnected { node } => tell_of("Disconnected", *node, told),
         Event::Handed(message) => {
-            told.word("Handed")?;
-            tell_node(message.sender, told)?;
-            tell_message(alloc, message, told)
+            tell_of("Handed", message.sender, told);
+            return tell_message(alloc, message, told);
         }
         _ => told.word("another-event"),
     }
+    Ok(())
 }
 
 /// Tells what a copy of a message becomes at its target.
-fn tell_delivered(alloc: Global, message: &Message, told: &mut Told) -> Result<(), Unplayed>
-    requires within { IsWithinBody message.now.body }
-    requires writable { IsWritable message.now.body }
-{
-    let copy = copy_of(alloc, message)?;
-    match event_of(alloc, &copy)? {
-        Some(event) => tell_event(alloc, &event, told),
-        None => told.word("None"),
+fn tell_delivered(row: &mut Row<'_>) -> Result<(), Unplayed> {
+    let message = named_message(row.alloc, &mut row.words)?;
+    let copy = copy_of(row.alloc, &message)?;
+    match event_of(row.alloc, &copy)? {
+        Some(event) => tell_event(row.alloc, &event, &mut row.told),
+        None => {
+            row.told.word("None");
+            Ok(())
+        }
     }
 }
 
 /// Tells the comment of a message with a number.
-fn tell_comment(
-    alloc: Global,
-    number: u64,
-    message: &Message,
-    told: &mut Told,
-) -> Result<(), Unplayed>
-    requires { IsWritable message.now.body }
-{
-    let mut text = OutText::new(alloc);
-    add_message(alloc, &mut text, number as usize, message)?;
-    told.bytes(text.as_slice())
+fn tell_comment(row: &mut Row<'_>) -> Result<(), Unplayed> {
+    let number = row.words.size();
+    let message = named_message(row.alloc, &mut row.words)?;
+    let mut text = OutText::new(row.alloc);
+    add_message(row.alloc, &mut text, number, &message)?;
+    row.told.bytes(text.as_slice());
+    Ok(())
 }
 
 /// Tells the bytes of a message that is added to a text so often, each time once more where that lacked memory.
-fn tell_often(alloc: Global, times: u64, message: &Message, told: &mut Told) -> Result<(), Unplayed>
-    requires { IsWritable message.now.body }
-{
-    let mut text = OutText::new(alloc);
+fn tell_often(row: &mut Row<'_>) -> Result<(), Unplayed> {
+    let times = row.words.number();
+    let message = between_sentinels(row.alloc, &mut row.words)?;
+    let mut text = OutText::new(row.alloc);
     for _ in 0..times {
         let len = text.len();
-        if message_text(alloc, message, &mut text).is_err() {
+        if message_text(row.alloc, &message, &mut text).is_err() {
             if text.len() != len {
                 return Err(Unplayed::Changed);
             }
-            message_text(alloc, message, &mut text)?;
+            message_text(row.alloc, &message, &mut text)?;
         }
     }
-    told.bytes(text.as_slice())
+    row.told.bytes(text.as_slice());
+    Ok(())
 }
 
 /// Tells what comes of a call with these words.
-pub(crate) fn play(
-    alloc: Global,
-    call: &str,
-    words: &[Vec<u8>],
-    told: &mut Told,
-) -> Result<(), Unplayed> {
-    match (call, words) {
-        ("message_text", words) => {
-            let message = message(alloc, b"s0", b"s1", words)?;
-            told.bytes(bytes_of(alloc, &message)?.as_slice())
-        }
-        ("message_texts", [times, words @ ..]) => {
-            let message = message(alloc, b"s0", b"s1", words)?;
-            tell_often(alloc, number(times)?, &message, told)
-        }
-        ("add_message", [place, sender, target, words @ ..]) => {
-            let message = message(alloc, sender, target, words)?;
-            tell_comment(alloc, number(place)?, &message, told)
-        }
-        ("add_comment", words) => tell_comments(alloc, words, told),
-        ("event_of", [sender, target, words @ ..]) => {
-            tell_delivered(alloc, &message(alloc, sender, target, words)?, told)
-        }
+pub(crate) fn play(row: &mut Row<'_>) -> Result<(), Unplayed> {
+    match row.call {
+        "message_text" => tell_bytes(row),
+        "message_texts" => tell_often(row),
+        "add_message" => tell_comment(row),
+        "add_comment" => tell_comments(row),
+        "event_of" => tell_delivered(row),
         _ => Err(Unplayed::NoSuchCall),
     }
 }

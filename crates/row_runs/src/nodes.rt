@@ -5,9 +5,9 @@ ghost use Rattle.boxed_nodes.specs.Sendable.{IsTakeable, IsHeldBy};
 
 use crate::bodies::body;
 use crate::events::node;
-use crate::given::number_32;
 use crate::message_rows::tell_message;
 use crate::told::{Told, Unplayed};
+use crate::words::{Row, Words};
 use ballot_law::{Event, Input, KeptText, Message, NodeName, Output};
 use boxed_nodes::{ClientNode, DataNode, HowStored, Node};
 use sentinel_conf::{Conf, read};
@@ -21,26 +21,31 @@ struct LoneNode<N: Node> {
     outbox: Outbox,
 }
 
-/// What happens at a node: a message reaches it, the timer of the first master rings, or it becomes another one.
-fn event(alloc: Global, call: &str, words: &[Vec<u8>]) -> Result<Event, Unplayed>
+/// The message reaches a node that the next words are: its sender, and what it says.
+fn handed(alloc: Global, words: &mut Words<'_>) -> Result<Event, Unplayed>
     ensures { IfOk result IsTakeable }
 {
-    match (call, words) {
-        ("from", [sender, words @ ..]) | ("take", [sender, words @ ..]) => {
-            Ok(Event::Handed(Message {
-                sender: node(sender)?,
-                target: NodeName::StoreAt(0),
-                body: body(alloc, words)?,
-            }))
-        }
-        ("tick", []) => Ok(Event::Tick {
+    Ok(Event::Handed(Message {
+        sender: node(words),
+        target: NodeName::StoreAt(0),
+        body: body(alloc, words)?,
+    }))
+}
+
+/// What happens at a node: a message reaches it, the timer of the first master rings, or it becomes another one.
+fn event(alloc: Global, call: &str, words: &mut Words<'_>) -> Result<Event, Unplayed>
+    ensures { IfOk result IsTakeable }
+{
+    match call {
+        "from" | "take" => handed(alloc, words),
+        "tick" => Ok(Event::Tick {
             master: 0,
             random: 0,
         }),
-        ("become", [priority, offset, link_down]) => Ok(Event::Become {
-            priority: u64::from(number_32(priority)?),
-            offset: u64::from(number_32(offset)?),
-            link_down: u64::from(number_32(link_down)?),
+        "become" => Ok(Event::Become {
+            priority: u64::from(words.number_32()),
+            offset: u64::from(words.number_32()),
+            link_down: u64::from(words.number_32()),
         }),
         _ => Err(Unplayed::NoSuchCall),
     }
@@ -80,32 +85,30 @@ impl<N: Node> LoneNode<N> {
         }
     }
 
-    /// Tells what comes of a call with these words.
-    fn play(
-        &mut self,
-        alloc: Global,
-        call: &str,
-        words: &[Vec<u8>],
-        told: &mut Told,
-    ) -> Result<(), Unplayed> {
-        match call {
-            "start" => {
-                self.node.stop(KeptText::Old);
-                if self.node.start(0).is_err() {
-                    return Err(Unplayed::NoMemory);
-                }
-                told.ok()
-            }
-            "take" => {
-                self.take(event(alloc, call, words)?)?;
-                told.ok()
-            }
-            "from" | "tick" | "become" => {
-                self.give(event(alloc, call, words)?)?;
-                self.tell(alloc, told)
-            }
-            _ => Err(Unplayed::NoSuchCall),
+    /// Stops it, and starts it from nothing.
+    fn start_again(&mut self) -> Result<(), Unplayed> {
+        self.node.stop(KeptText::Old);
+        if self.node.start(0).is_err() {
+            return Err(Unplayed::NoMemory);
         }
+        Ok(())
+    }
+
+    /// Tells what comes of a call with these words.
+    fn play(&mut self, row: &mut Row<'_>) -> Result<(), Unplayed> {
+        if row.call == "start" {
+            self.start_again()?;
+            row.told.ok();
+            return Ok(());
+        }
+        let event = event(row.alloc, row.call, &mut row.words)?;
+        if row.call == "take" {
+            self.take(event)?;
+            row.told.ok();
+            return Ok(());
+        }
+        self.give(event)?;
+        self.tell(row.alloc, &mut row.told)
     }
 
     /// Tells what was said.
@@ -115,7 +118,8 @@ impl<N: Node> LoneNode<N> {
                 tell_message(alloc, message, told)?;
             }
         }
-        told.nothing()
+        told.nothing();
+        Ok(())
     }
 }
 
@@ -170,26 +174,24 @@ impl Nodes {
     fn make(&mut self, name: NodeName, file: &[u8], told: &mut Told) -> Result<(), Unplayed> {
         let conf = conf(self.alloc, file)?;
         self.kind = self.made(name, &conf)?;
-        match self.kind {
-            Some(_) => told.ok(),
-            None => told.word("None"),
+        told.word(if self.kind.is_some() { "ok" } else { "None" });
+        Ok(())
+    }
+
+    /// Tells what comes of a call of the node that was made.
+    fn play_made(&mut self, row: &mut Row<'_>) -> Result<(), Unplayed> {
+        match &mut self.kind {
+            Some(Kind::Data(node)) => node.play(row),
+            Some(Kind::Client(node)) => node.play(row),
+            None => Err(Unplayed::OutOfRange),
         }
     }
 
     /// Tells what comes of a call with these words.
-    pub(crate) fn play(
-        &mut self,
-        call: &str,
-        words: &[Vec<u8>],
-        told: &mut Told,
-    ) -> Result<(), Unplayed> {
-        match (call, words) {
-            ("node", [name, file]) => self.make(node(name)?, file, told),
-            _ => match &mut self.kind {
-                Some(Kind::Data(node)) => node.play(self.alloc, call, words, told),
-                Some(Kind::Client(node)) => node.play(self.alloc, call, words, told),
-                None => Err(Unplayed::OutOfRange),
-            },
+    pub(crate) fn play(&mut self, row: &mut Row<'_>) -> Result<(), Unplayed> {
+        match row.call {
+            "node" => self.make(node(&mut row.words), row.words.bytes(), &mut row.told),
+            _ => self.play_made(row),
         }
     }
 }

@@ -1,6 +1,6 @@
 //! What a Sentinel's rules noted, in words.
 
-use crate::told::{Told, Unplayed};
+use crate::told::Told;
 use sentinel_state::{MasterNotice, MasterThen, Notice, ReplicaNotice};
 
 /// The word of what happened to a master.
@@ -38,50 +38,50 @@ fn replica_word(what: ReplicaNotice) -> &'static str {
 }
 
 /// Tells a master: its number, and the address that it had.
-fn tell_then(of: MasterThen, told: &mut Told) -> Result<(), Unplayed> {
-    told.number(u64::from(of.master))?;
-    told.address(of.addr)
+fn tell_then(of: MasterThen, told: &mut Told) {
+    told.number(u64::from(of.master));
+    told.address(of.addr);
 }
 
 /// Tells what happened to a master.
-fn tell_master(of: MasterThen, what: MasterNotice, told: &mut Told) -> Result<(), Unplayed> {
-    told.word(master_word(what))?;
+fn tell_master(of: MasterThen, what: MasterNotice, told: &mut Told) {
+    told.word(master_word(what));
     if let MasterNotice::PutOff { left, timeout } = what {
-        told.number(left)?;
-        told.number(timeout)?;
+        told.number(left);
+        told.number(timeout);
     }
-    tell_then(of, told)
+    tell_then(of, told);
 }
 
 /// Tells a notice: its word, the place that it names, and the master with its address.
-pub(crate) fn tell_notice(notice: Notice, told: &mut Told) -> Result<(), Unplayed> {
+pub(crate) fn tell_notice(notice: Notice, told: &mut Told) {
     match notice {
         Notice::Tilted(is_tilted) => told.word(if is_tilted { "Tilted" } else { "Untilted" }),
         Notice::NewEpoch(epoch) => {
-            told.word("NewEpoch")?;
-            told.number(epoch)
+            told.word("NewEpoch");
+            told.number(epoch);
         }
         Notice::Voted { leader, epoch } => {
-            told.word("Voted")?;
-            told.maybe_id(Some(leader))?;
-            told.number(epoch)
+            told.word("Voted");
+            told.id(leader);
+            told.number(epoch);
         }
         Notice::OfMaster { of, what } => tell_master(of, what, told),
         Notice::OfReplica { of, place, what } => {
-            told.word(replica_word(what))?;
-            told.number(u64::from(place))?;
-            tell_then(of, told)
+            told.word(replica_word(what));
+            told.number(u64::from(place));
+            tell_then(of, told);
         }
         Notice::OfSentinel { of, place, down } => {
-            told.word(if down { "SentinelDown" } else { "SentinelUp" })?;
-            told.number(u64::from(place))?;
-            tell_then(of, told)
+            told.word(if down { "SentinelDown" } else { "SentinelUp" });
+            told.number(u64::from(place));
+            tell_then(of, told);
         }
         Notice::Brought { of, by } => {
-            told.word("Brought")?;
-            told.maybe_id(Some(by.id))?;
-            told.address(by.addr)?;
-            tell_then(of, told)
+            told.word("Brought");
+            told.id(by.id);
+            told.address(by.addr);
+            tell_then(of, told);
         }
     }
 }

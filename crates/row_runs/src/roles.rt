@@ -5,6 +5,7 @@ ghost use Rattle.node_texts.specs.Roles.{IsRole};
 
 use crate::commands::value_of;
 use crate::told::{Told, Unplayed};
+use crate::words::Row;
 use ballot_law::Role;
 use node_texts::{read_role, write_role};
 use resp2::{OutText, Value};
@@ -14,15 +15,15 @@ use std::alloc::Global;
 const MOST: u64 = 9_223_372_036_854_775_807;
 
 /// Tells what a value says, or its fault.
-fn tell_said(value: &Value, told: &mut Told) -> Result<(), Unplayed> {
+fn tell_said(value: &Value, told: &mut Told) {
     match read_role(value) {
         Ok(Role::Master { offset }) => {
-            told.word("Master")?;
+            told.word("Master");
             told.number(offset)
         }
         Ok(Role::Replica { addr, offset }) => {
-            told.word("Replica")?;
-            told.address(addr)?;
+            told.word("Replica");
+            told.address(addr);
             told.number(offset)
         }
         Err(fault) => told.shown(&fault),
@@ -51,19 +52,17 @@ fn tell_written(alloc: Global, value: &Value, told: &mut Told) -> Result<(), Unp
     if write_role(&role, &mut text).is_err() && write_role(&role, &mut text).is_err() {
         return Err(Unplayed::Changed);
     }
-    told.bytes(text.as_slice())
+    told.bytes(text.as_slice());
+    Ok(())
 }
 
 /// Tells what comes of a call with these words.
-pub(crate) fn play(
-    alloc: Global,
-    call: &str,
-    words: &[Vec<u8>],
-    told: &mut Told,
-) -> Result<(), Unplayed> {
-    match (call, words) {
-        ("read_role", [bytes]) => tell_said(&value_of(alloc, bytes)?, told),
-        ("write_role", [bytes]) => tell_written(alloc, &value_of(alloc, bytes)?, told),
-        _ => Err(Unplayed::NoSuchCall),
+pub(crate) fn play(row: &mut Row<'_>) -> Result<(), Unplayed> {
+    let value = value_of(row.alloc, row.words.bytes())?;
+    match row.call {
+        "read_role" => tell_said(&value, &mut row.told),
+        "write_role" => return tell_written(row.alloc, &value, &mut row.told),
+        _ => return Err(Unplayed::NoSuchCall),
     }
+    Ok(())
 }

@@ -1,7 +1,7 @@
 //! Rosters of a group with one master.
 
-use crate::given::{number_16, number_32};
 use crate::told::{Told, Unplayed};
+use crate::words::{Row, Words};
 use ballot_law::{Addr, Member, Name, Roster, RosterFault, RunId, Watched};
 use std::alloc::Global;
 
@@ -29,10 +29,10 @@ fn members(alloc: Global, count: u16) -> Result<Vec<Member>, Unplayed> {
 }
 
 /// The master `mymaster` of this quorum with nodes at these ports.
-fn masters(alloc: Global, quorum: u32, ports: &[Vec<u8>]) -> Result<Vec<Watched>, Unplayed> {
+fn masters(alloc: Global, quorum: u32, ports: &[u16]) -> Result<Vec<Watched>, Unplayed> {
     let mut nodes = Vec::new(alloc);
     for port in ports {
-        nodes.push(local(number_16(port)?))?;
+        nodes.push(local(*port))?;
     }
     let name = Name::from_slice(b"mymaster").ok_or(Unplayed::WrongWords)?;
     let mut masters = Vec::new(alloc);
@@ -42,15 +42,20 @@ fn masters(alloc: Global, quorum: u32, ports: &[Vec<u8>]) -> Result<Vec<Watched>
 
 /// The roster of three Sentinels that watch `mymaster`, which has three nodes.
 pub(crate) fn watching_mymaster(alloc: Global) -> Result<Roster, Unplayed> {
-    let mut ports = Vec::new(alloc);
-    for port in ["6379", "6380", "6381"] {
-        ports.push(Vec::from_slice(alloc, port.as_bytes())?)?;
-    }
-    let masters = masters(alloc, 2, ports.as_slice())?;
+    let masters = masters(alloc, 2, &[6379, 6380, 6381])?;
     match Roster::new(alloc, members(alloc, 3)?, masters) {
         Ok(roster) => Ok(roster),
         Err(_) => Err(Unplayed::NoMemory),
     }
+}
+
+/// The ports that all words are that are left.
+fn ports(alloc: Global, words: &mut Words<'_>) -> Result<Vec<u16>, Unplayed> {
+    let mut ports = Vec::new(alloc);
+    for _ in 0..words.count() {
+        ports.push(words.number_16())?;
+    }
+    Ok(ports)
 }
 
 /// Tells how many votes elect a Sentinel by a copy of this roster.
@@ -59,24 +64,22 @@ fn tell_need(alloc: Global, roster: &Roster, told: &mut Told) -> Result<(), Unpl
     if copy.masters().is_empty() {
         return Err(Unplayed::OutOfRange);
     }
-    told.number(u64::from(copy.need(0)))
+    told.number(u64::from(copy.need(0)));
+    Ok(())
 }
 
 /// Tells what comes of a call with these words: how many Sentinels there are, the quorum, and the ports of the nodes.
-pub(crate) fn play(
-    alloc: Global,
-    call: &str,
-    words: &[Vec<u8>],
-    told: &mut Told,
-) -> Result<(), Unplayed> {
-    let ("roster", [count, quorum, ports @ ..]) = (call, words) else {
+pub(crate) fn play(row: &mut Row<'_>) -> Result<(), Unplayed> {
+    if row.call != "roster" {
         return Err(Unplayed::NoSuchCall);
-    };
-    let members = members(alloc, number_16(count)?)?;
-    let masters = masters(alloc, number_32(quorum)?, ports)?;
-    match Roster::new(alloc, members, masters) {
-        Ok(roster) => tell_need(alloc, &roster, told),
-        Err(RosterFault::NoMemory) => Err(Unplayed::NoMemory),
-        Err(fault) => told.shown(&fault),
     }
+    let members = members(row.alloc, row.words.number_16())?;
+    let quorum = row.words.number_32();
+    let masters = masters(row.alloc, quorum, &ports(row.alloc, &mut row.words)?)?;
+    match Roster::new(row.alloc, members, masters) {
+        Ok(roster) => return tell_need(row.alloc, &roster, &mut row.told),
+        Err(RosterFault::NoMemory) => return Err(Unplayed::NoMemory),
+        Err(fault) => row.told.shown(&fault),
+    }
+    Ok(())
 }

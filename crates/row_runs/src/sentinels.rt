@@ -8,10 +8,10 @@ use crate::commands::value_of;
 use crate::counted_files::CountedFile;
 use crate::events::event;
 use crate::frames::tell_value;
-use crate::given::{addr, number, number_16, number_32, says};
 use crate::message_rows::{is_hello, is_routine, tell_output};
 use crate::noticed::tell_notice;
 use crate::told::{Told, Unplayed};
+use crate::words::Row;
 use ballot_law::{Card, Event, Input, Output};
 use conf_lines::ConfKind;
 use resp2::{OutText, push_bulk, push_size};
@@ -50,13 +50,11 @@ struct Rules {
     reboot_ms: u64,
 }
 
-/// Those of this profile, by which a master may load its data for ever.
-fn rules_of(profile: Profile) -> Rules {
-    Rules {
-        profile,
-        reboot_ms: 0,
-    }
-}
+/// Those of the strict profile.
+const STRICT: Rules = Rules {
+    profile: Profile::Strict,
+    reboot_ms: 0,
+};
 
 /// A Sentinel of these rules that opens with this file, at this reading of its clock.
 fn opened(alloc: Global, file: &[u8], rules: Rules, now: u64) -> Result<Box<Sentinel>, Unplayed>
@@ -94,7 +92,7 @@ impl Lone {
 
     /// Opens a strict one in a box.
     pub(crate) fn boxed(alloc: Global, file: &[u8], now: u64) -> Result<Box<Lone>, Unplayed> {
-        Lone::boxed_as(alloc, file, rules_of(Profile::Strict), now)
+        Lone::boxed_as(alloc, file, STRICT, now)
     }
 
     /// Opens one of these rules in a box.
@@ -140,8 +138,7 @@ impl Lone {
 
     /// Stops it, and starts it from its file at this reading of its clock, with what it held lost.
     fn start_again(&mut self, now: u64) -> Result<(), Unplayed> {
-        self.is_ready = false;
-        self.sentinel.stop();
+        self.stop();
         let plan = self.sentinel.plan();
         let rules = Rules {
             profile: plan.profile(),
@@ -179,12 +176,12 @@ impl Lone {
     ) -> Result<Vec<u8>, Unplayed> {
         let mut written = Vec::with_capacity(self.alloc, ROOM)?;
         match self.serve(now, &mut Cursor::new(bytes), &mut written)? {
-            Ok(served) => told.number(served.answers)?,
+            Ok(served) => told.number(served.answers),
             Err(ServeFault::NoMemory) => {
                 self.part = written;
                 return Err(Unplayed::NoMemory);
             }
-            Err(fault) => told.shown(&fault)?,
+            Err(fault) => told.shown(&fault),
         }
         if !written.starts_with(&self.part) {
             return Err(Unplayed::Changed);
@@ -195,7 +192,8 @@ impl Lone {
     /// Tells what these bytes get.
     fn tell_served(&mut self, now: u64, bytes: &[u8], told: &mut Told) -> Result<(), Unplayed> {
         let written = self.serve_bytes(now, bytes, told)?;
-        told.bytes(&written)
+        told.bytes(&written);
+        Ok(())
     }
 
     /// Tells the answer to the command of these words, in a stream of its own.
@@ -211,49 +209,100 @@ impl Lone {
             push_bulk(&mut text, word)?;
         }
         let written = self.serve_bytes(now, text.as_slice(), told)?;
-        tell_value(&value_of(self.alloc, &written)?, told)
+        tell_value(&value_of(self.alloc, &written)?, told);
+        Ok(())
     }
 
     /// Tells the election and the new configuration of the first master that the last input brought.
-    fn tell_changes(&mut self, told: &mut Told) -> Result<(), Unplayed> {
+    fn tell_changes(&mut self, told: &mut Told) {
         if let Some((master, epoch)) = self.sentinel.won() {
-            told.word("elected")?;
-            told.number(u64::from(master))?;
-            told.number(epoch)?;
+            told.word("elected");
+            told.number(u64::from(master));
+            told.number(epoch);
         }
         let card = self.sentinel.address_now(0);
         if card != self.card {
-            told.word("stored")?;
-            tell_card(card, told)?;
+            told.word("stored");
+            tell_card(card, told);
             self.card = card;
         }
-        Ok(())
+    }
+
+    /// Takes an input; what was shown before it is lost. Tells a fault: whether there was none.
+    fn takes(&mut self, now: u64, event: Event, told: &mut Told) -> bool
+        requires { IsWithinEvent event }
+    {
+        match self.take(now, event) {
+            Ok(_) => true,
+            Err(fault) => {
+                told.shown(&fault);
+                false
+            }
+        }
+    }
+
+    /// Stores and releases. Tells the first fault: whether there was none.
+    fn ends(&mut self, told: &mut Told) -> bool {
+        if let Err(fault) = self.store() {
+            told.shown(&fault);
+            return false;
+        }
+        if let Err(fault) = self.release() {
+            told.shown(&fault);
+            return false;
+        }
+        true
     }
 
     /// Takes an input, stores and releases; tells what is sent and told, but PING, INFO and hellos unless all is
     /// wanted, and what changed.
-    fn give(
-        &mut self,
-        now: u64,
-        words: &[Vec<u8>],
-        all: bool,
-        told: &mut Told,
-    ) -> Result<(), Unplayed> {
-        let event = event(self.alloc, words)?;
+    fn give(&mut self, row: &mut Row<'_>, all: bool) -> Result<(), Unplayed> {
+        let now = row.words.number();
+        let event = event(self.alloc, &mut row.words)?;
         self.outbox.clear();
         self.outbox.drop_held();
-        if let Err(fault) = self.take(now, event) {
-            return told.shown(&fault);
+        if self.takes(now, event, &mut row.told) && self.ends(&mut row.told) {
+            self.tell_outputs(all, &mut row.told)?;
+            self.tell_changes(&mut row.told);
+            row.told.nothing();
         }
-        if let Err(fault) = self.store() {
-            return told.shown(&fault);
+        Ok(())
+    }
+
+    /// Takes an input, and tells whether it changed what is kept, or the fault.
+    fn tell_take(&mut self, row: &mut Row<'_>) -> Result<(), Unplayed> {
+        let now = row.words.number();
+        let event = event(self.alloc, &mut row.words)?;
+        self.outbox.clear();
+        match self.take(now, event) {
+            Ok(took) => row
+                .told
+                .word(if took.changed { "changed" } else { "unchanged" }),
+            Err(fault) => row.told.shown(&fault),
         }
-        if let Err(fault) = self.release() {
-            return told.shown(&fault);
+        Ok(())
+    }
+
+    /// Stores, and tells the fault, if there is one.
+    fn tell_store(&mut self, told: &mut Told) {
+        match self.store() {
+            Ok(()) => told.ok(),
+            Err(fault) => told.shown(&fault),
         }
-        self.tell_outputs(all, told)?;
-        self.tell_changes(told)?;
-        told.nothing()
+    }
+
+    /// Releases, and tells the fault, if there is one.
+    fn tell_release(&mut self, told: &mut Told) {
+        match self.release() {
+            Ok(()) => told.ok(),
+            Err(fault) => told.shown(&fault),
+        }
+    }
+
+    /// Stops it.
+    fn stop(&mut self) {
+        self.is_ready = false;
+        self.sentinel.stop();
     }
 
     /// Tells what is shown.
@@ -273,112 +322,91 @@ impl Lone {
                 tell_output(self.alloc, self.sentinel.roster(), output, told)?;
             }
         }
-        told.nothing()
+        told.nothing();
+        Ok(())
     }
 
     /// Tells what its rules noted that wasn't told yet.
-    fn tell_notices(&self, told: &mut Told) -> Result<(), Unplayed> {
+    fn tell_notices(&self, told: &mut Told) {
         for _ in 0..NOTICES_MAX {
             let Some(notice) = self.sentinel.take_notice() else {
-                return told.nothing();
+                told.nothing();
+                return;
             };
-            tell_notice(notice, told)?;
+            tell_notice(notice, told);
+        }
+    }
+
+    /// Tells the number of the master with the address that the next word is.
+    fn tell_master_at(&self, row: &mut Row<'_>) {
+        let master = self.sentinel.roster().master_at(row.words.addr());
+        row.told.maybe_number(master.map(u64::from));
+    }
+
+    /// Tells the answer to a question about it.
+    fn play_question(&self, row: &mut Row<'_>) -> Result<(), Unplayed> {
+        match row.call {
+            "shown" => row.told.number(self.outbox.outputs().len() as u64),
+            "hellos" => return self.tell_hellos(&mut row.told),
+            "notices" => self.tell_notices(&mut row.told),
+            "text" => row.told.bytes(self.file.text()),
+            "kept" => return tell_kept(self.alloc, self.file.text(), &mut row.told),
+            "writes" => row.told.number(self.file.writes()),
+            "failures" => row.told.number(self.file.failures()),
+            "card" => tell_card(
+                self.sentinel.address_now(row.words.number_16()),
+                &mut row.told,
+            ),
+            "won" => row.told.maybe_number(self.sentinel.won().map(|won| won.1)),
+            "place" => row.told.number(u64::from(self.sentinel.place())),
+            "master_at" => self.tell_master_at(row),
+            "is_stopped" => row.told.yes(self.sentinel.is_stopped()),
+            _ => return Err(Unplayed::NoSuchCall),
         }
         Ok(())
     }
 
-    /// Tells what comes of a call in the order of an input.
-    fn play_turn(
-        &mut self,
-        call: &str,
-        words: &[Vec<u8>],
-        told: &mut Told,
-    ) -> Result<(), Unplayed> {
-        match (call, words) {
-            ("take", [now, words @ ..]) => {
-                let event = event(self.alloc, words)?;
-                self.outbox.clear();
-                match self.take(number(now)?, event) {
-                    Ok(Took { changed: true }) => told.word("changed"),
-                    Ok(Took { changed: false }) => told.word("unchanged"),
-                    Err(fault) => told.shown(&fault),
-                }
-            }
-            ("store", []) => match self.store() {
-                Ok(()) => told.ok(),
-                Err(fault) => told.shown(&fault),
-            },
-            ("release", []) => match self.release() {
-                Ok(()) => told.ok(),
-                Err(fault) => told.shown(&fault),
-            },
-            ("stop", []) => {
-                self.is_ready = false;
-                self.sentinel.stop();
-                told.ok()
-            }
-            ("start", [now]) => {
-                self.start_again(number(now)?)?;
-                told.ok()
-            }
-            _ => self.play_question(call, words, told),
+    /// Tells what comes of a call that tells no more than that it was made.
+    fn play_order(&mut self, row: &mut Row<'_>) -> Result<(), Unplayed> {
+        match row.call {
+            "stop" => self.stop(),
+            "start" => self.start_again(row.words.number())?,
+            "refuse_after" => self
+                .file
+                .refuse_after(row.words.number_32(), row.words.says("new", "old")),
+            "lose_room" => self.outbox = Outbox::new(self.alloc),
+            _ => return self.play_question(row),
         }
-    }
-
-    /// Tells the answer to a question about it.
-    fn play_question(
-        &self,
-        call: &str,
-        words: &[Vec<u8>],
-        told: &mut Told,
-    ) -> Result<(), Unplayed> {
-        match (call, words) {
-            ("shown", []) => told.number(self.outbox.outputs().len() as u64),
-            ("hellos", []) => self.tell_hellos(told),
-            ("notices", []) => self.tell_notices(told),
-            ("text", []) => told.bytes(self.file.text()),
-            ("kept", []) => tell_kept(self.alloc, self.file.text(), told),
-            ("writes", []) => told.number(self.file.writes()),
-            ("failures", []) => told.number(self.file.failures()),
-            ("card", [master]) => tell_card(self.sentinel.address_now(number_16(master)?), told),
-            ("won", []) => told.maybe_number(self.sentinel.won().map(|won| won.1)),
-            ("place", []) => told.number(u64::from(self.sentinel.place())),
-            ("master_at", [at]) => {
-                let master = self.sentinel.roster().master_at(addr(at)?);
-                told.maybe_number(master.map(u64::from))
-            }
-            ("is_stopped", []) => told.yes(self.sentinel.is_stopped()),
-            _ => Err(Unplayed::NoSuchCall),
-        }
+        row.told.ok();
+        Ok(())
     }
 
     /// Tells what comes of a call with these words.
-    fn play(&mut self, call: &str, words: &[Vec<u8>], told: &mut Told) -> Result<(), Unplayed> {
-        match (call, words) {
-            ("at", [now, words @ ..]) => self.give(number(now)?, words, false, told),
-            ("all", [now, words @ ..]) => self.give(number(now)?, words, true, told),
-            ("serve", [now, bytes]) => self.tell_served(number(now)?, bytes, told),
-            ("ask", [now, words @ ..]) => self.tell_answer(number(now)?, words, told),
-            ("refuse_after", [passes, left]) => {
-                let is_new = says(left, "new", "old")?;
-                self.file.refuse_after(number_32(passes)?, is_new);
-                told.ok()
-            }
-            ("lose_room", []) => {
-                self.outbox = Outbox::new(self.alloc);
-                told.ok()
-            }
-            _ => self.play_turn(call, words, told),
+    fn play(&mut self, row: &mut Row<'_>) -> Result<(), Unplayed> {
+        match row.call {
+            "at" => return self.give(row, false),
+            "all" => return self.give(row, true),
+            "serve" => return self.tell_served(
+                row.words.number(),
+                row.words.bytes(),
+                &mut row.told,
+            ),
+            "ask" => return self.tell_answer(row.words.number(), row.words.rest(), &mut row.told),
+            "take" => return self.tell_take(row),
+            "store" => self.tell_store(&mut row.told),
+            "release" => self.tell_release(&mut row.told),
+            _ => return self.play_order(row),
         }
+        Ok(())
     }
 }
 
 /// Tells a configuration: its epoch and its address.
-fn tell_card(card: Option<Card>, told: &mut Told) -> Result<(), Unplayed> {
+fn tell_card(card: Option<Card>, told: &mut Told) {
     match card {
         Some(card) => {
-            told.number(card.epoch)?;
-            told.address(card.addr)
+            told.number(card.epoch);
+            told.address(card.addr);
         }
         None => told.word("None"),
     }
@@ -390,9 +418,9 @@ fn tell_kept(alloc: Global, file: &[u8], told: &mut Told) -> Result<(), Unplayed
         return Err(Unplayed::NoMemory);
     };
     let conf = Box::new(alloc, conf)?;
-    told.number(conf.kept().current)?;
+    told.number(conf.kept().current);
     for master in conf.kept().masters.as_slice() {
-        told.number(master.voted)?;
+        told.number(master.voted);
     }
     Ok(())
 }
@@ -410,36 +438,32 @@ impl Sentinels {
         Sentinels { alloc, lone: None }
     }
 
+    /// Opens a Sentinel of these rules, and tells that.
+    fn open(&mut self, row: &mut Row<'_>, profile: Profile) -> Result<(), Unplayed> {
+        let (file, now) = (row.words.bytes(), row.words.number());
+        let reboot_ms = if row.words.count() > 0 {
+            row.words.number()
+        } else {
+            0
+        };
+        let rules = Rules { profile, reboot_ms };
+        self.lone = Some(Lone::ready(self.alloc, file, rules, now)?);
+        row.told.ok();
+        Ok(())
+    }
+
+    /// Tells what comes of a call of the Sentinel that was opened.
+    fn play_opened(&mut self, row: &mut Row<'_>) -> Result<(), Unplayed> {
+        let lone = self.lone.as_mut().ok_or(Unplayed::OutOfRange)?;
+        lone.play(row)
+    }
+
     /// Tells what comes of a call with these words.
-    pub(crate) fn play(
-        &mut self,
-        call: &str,
-        words: &[Vec<u8>],
-        told: &mut Told,
-    ) -> Result<(), Unplayed> {
-        match (call, words) {
-            ("open", [file, now]) => {
-                let rules = rules_of(Profile::Strict);
-                self.lone = Some(Lone::ready(self.alloc, file, rules, number(now)?)?);
-                told.ok()
-            }
-            ("open-as-redis", [file, now]) => {
-                let rules = rules_of(Profile::Redis);
-                self.lone = Some(Lone::ready(self.alloc, file, rules, number(now)?)?);
-                told.ok()
-            }
-            ("open-with-reboot", [file, now, ms]) => {
-                let rules = Rules {
-                    profile: Profile::Redis,
-                    reboot_ms: number(ms)?,
-                };
-                self.lone = Some(Lone::ready(self.alloc, file, rules, number(now)?)?);
-                told.ok()
-            }
-            _ => {
-                let lone = self.lone.as_mut().ok_or(Unplayed::OutOfRange)?;
-                lone.play(call, words, told)
-            }
+    pub(crate) fn play(&mut self, row: &mut Row<'_>) -> Result<(), Unplayed> {
+        match row.call {
+            "open" => self.open(row, Profile::Strict),
+            "open-as-redis" | "open-with-reboot" => self.open(row, Profile::Redis),
+            _ => self.play_opened(row),
         }
     }
 }

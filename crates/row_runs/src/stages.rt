@@ -8,8 +8,9 @@ use crate::down_states::DownStates;
 use crate::failover_turns::Turns;
 use crate::nodes::Nodes;
 use crate::sentinels::Sentinels;
-use crate::told::{Told, Unplayed};
+use crate::told::Unplayed;
 use crate::votes_and_elections::Votes;
+use crate::words::Row;
 use std::alloc::Global;
 use std::sync::Wait;
 
@@ -67,25 +68,19 @@ impl Stage {
     }
 
     /// Tells what comes of a call with these words.
-    pub(crate) fn play<R: Wait>(
-        &mut self,
-        wait: &R,
-        call: &str,
-        words: &[Vec<u8>],
-        told: &mut Told,
-    ) -> Result<(), Unplayed> {
+    pub(crate) fn play<R: Wait>(&mut self, row: &mut Row<'_>, wait: &R) -> Result<(), Unplayed> {
         match self {
             Stage::NotSet => Err(Unplayed::NoSuchFamily),
             Stage::Empty => Err(Unplayed::NoSuchFamily),
-            Stage::Votes(votes) => votes.play(call, words, told),
-            Stage::DownStates(states) => states.play(call, words, told),
-            Stage::Replicas(replicas) => replicas.play(call, words, told),
-            Stage::Searches(searches) => searches.play(call, words, told),
-            Stage::Turns(turns) => turns.play(call, words, told),
-            Stage::Sentinels(sentinels) => sentinels.play(call, words, told),
-            Stage::BrokenStreams(streams) => streams.play(call, words, told),
-            Stage::Nodes(nodes) => nodes.play(call, words, told),
-            Stage::Conversations(conversations) => conversations.play(wait, call, words, told),
+            Stage::Votes(votes) => votes.play(row),
+            Stage::DownStates(states) => states.play(row),
+            Stage::Replicas(replicas) => replicas.play(row),
+            Stage::Searches(searches) => searches.play(row),
+            Stage::Turns(turns) => turns.play(row),
+            Stage::Sentinels(sentinels) => sentinels.play(row),
+            Stage::BrokenStreams(streams) => streams.play(row),
+            Stage::Nodes(nodes) => nodes.play(row),
+            Stage::Conversations(conversations) => conversations.play(row, wait),
         }
     }
 }

@@ -1,7 +1,7 @@
 //! Stores: one in memory, and a file on a disk.
 
-use crate::given::{number, number_32, text};
 use crate::told::{Told, Unplayed};
+use crate::words::{Row, Words};
 use sentinel_conf::{ConfStore, FileStore, FileText, LoadFault, MemoryStore};
 use std::alloc::Global;
 use std::fs::{self, Permissions};
@@ -14,10 +14,10 @@ fn put<S: ConfStore>(store: &mut S, text: &[u8]) -> bool {
 }
 
 /// Puts a text in the place of the one that is held, and tells whether it is stored and how many calls have failed.
-fn replace<S: ConfStore>(store: &mut S, text: &[u8], told: &mut Told) -> Result<(), Unplayed> {
+fn replace<S: ConfStore>(store: &mut S, text: &[u8], told: &mut Told) {
     let is_stored = put(store, text);
-    told.word(if is_stored { "stored" } else { "refused" })?;
-    told.number(store.failures())
+    told.word(if is_stored { "stored" } else { "refused" });
+    told.number(store.failures());
 }
 
 /// The text that is held.
@@ -37,50 +37,40 @@ fn loaded<S: ConfStore>(store: &mut S) -> Result<FileText, LoadFault> {
 }
 
 /// Loads the text that is held, and tells it, or why not, and how many calls have failed.
-fn load<S: ConfStore>(store: &mut S, told: &mut Told) -> Result<(), Unplayed> {
+fn load<S: ConfStore>(store: &mut S, told: &mut Told) {
     match loaded(store) {
-        Ok(text) => told.bytes(text.as_slice())?,
-        Err(fault) => told.shown(&fault)?,
+        Ok(text) => told.bytes(text.as_slice()),
+        Err(fault) => told.shown(&fault),
     }
-    told.number(store.failures())
+    told.number(store.failures());
 }
 
-/// Which text is left where one is refused: whether the new one stands.
-fn is_new(left: &[u8]) -> Result<bool, Unplayed> {
-    match left {
-        b"new" => Ok(true),
-        b"old" => Ok(false),
-        _ => Err(Unplayed::WrongWords),
+/// Takes a turn of these words with a store in memory.
+fn take(store: &mut MemoryStore, turn: &mut Words<'_>, told: &mut Told) -> Result<(), Unplayed> {
+    match turn.text() {
+        "replace" => {
+            replace(store, turn.bytes(), told);
+            told.bytes(store.text());
+        }
+        "refuse_next" => store.refuse_next(turn.says("new", "old")),
+        "refuse_after" => store.refuse_after(turn.number_32(), turn.says("new", "old")),
+        "load" => load(store, told),
+        _ => return Err(Unplayed::NoSuchCall),
     }
-}
-
-/// Takes a turn with a store in memory.
-fn take(store: &mut MemoryStore, turn: &[Vec<u8>], told: &mut Told) -> Result<(), Unplayed> {
-    let [call, words @ ..] = turn else {
-        return Err(Unplayed::WrongWords);
-    };
-    match (text(call)?, words) {
-        ("replace", [text]) => {
-            replace(store, text, told)?;
-            told.bytes(store.text())
-        }
-        ("refuse_next", [left]) => {
-            store.refuse_next(is_new(left)?);
-            Ok(())
-        }
-        ("refuse_after", [passes, left]) => {
-            store.refuse_after(number_32(passes)?, is_new(left)?);
-            Ok(())
-        }
-        ("load", []) => load(store, told),
-        _ => Err(Unplayed::NoSuchCall),
-    }
+    Ok(())
 }
 
 /// Takes turns with a store in memory. A word `,` is between two.
-fn take_all(mut store: MemoryStore, turns: &[Vec<u8>], told: &mut Told) -> Result<(), Unplayed> {
-    for turn in turns.split(|word| word.as_slice() == b",".as_slice()) {
-        take(&mut store, turn, told)?;
+fn take_all(row: &mut Row<'_>, mut store: MemoryStore) -> Result<(), Unplayed> {
+    for _ in 0..row.words.count() {
+        if row.words.count() == 0 {
+            return Ok(());
+        }
+        let mut turn = Words::of(row.words.up_to(","));
+        take(&mut store, &mut turn, &mut row.told)?;
+        if !turn.were_read() {
+            return Err(Unplayed::WrongWords);
+        }
     }
     Ok(())
 }
@@ -97,28 +87,30 @@ fn tell_put(alloc: Global, old: &[u8], new: &[u8], told: &mut Told) -> Result<()
     }
     match loaded(&mut store) {
         Ok(text) => told.bytes(text.as_slice()),
-        Err(_) => Err(Unplayed::Changed),
+        Err(_) => return Err(Unplayed::Changed),
     }
+    Ok(())
 }
 
 /// The store at a path.
-fn store_at(rt: &HostRuntime, path: &[u8]) -> Result<FileStore<HostRuntime>, Unplayed> {
-    let store = FileStore::at(*rt, rt.alloc(), text(path)?)?;
+fn store_at(rt: &HostRuntime, path: &str) -> Result<FileStore<HostRuntime>, Unplayed> {
+    let store = FileStore::at(*rt, rt.alloc(), path)?;
     Ok(store)
 }
 
 /// Puts these texts in the file at a path, one after another, and tells what is loaded then.
 fn tell_file(
     rt: &HostRuntime,
-    path: &[u8],
+    path: &str,
     texts: &[Vec<u8>],
     told: &mut Told,
 ) -> Result<(), Unplayed> {
     let mut store = store_at(rt, path)?;
     for text in texts {
-        replace(&mut store, text, told)?;
+        replace(&mut store, text, told);
     }
-    load(&mut store, told)
+    load(&mut store, told);
+    Ok(())
 }
 
 /// Makes a file of this mode at a path.
@@ -134,39 +126,47 @@ fn mode_of(rt: &HostRuntime, path: &str) -> io::Result<u32> {
 }
 
 /// Makes a file of this mode at a path, puts another text in its place, and tells the mode of the file that is left.
-fn tell_mode(rt: &HostRuntime, path: &[u8], mode: &[u8], told: &mut Told) -> Result<(), Unplayed> {
-    let Ok(mode) = u32::from_str_radix(text(mode)?, 8) else {
+fn tell_mode(rt: &HostRuntime, path: &str, mode: &str, told: &mut Told) -> Result<(), Unplayed> {
+    let Ok(mode) = u32::from_str_radix(mode, 8) else {
         return Err(Unplayed::WrongWords);
     };
-    if make_file(rt, text(path)?, mode).is_err() {
+    if make_file(rt, path, mode).is_err() {
         return Err(Unplayed::NoSuchFile);
     }
-    replace(&mut store_at(rt, path)?, b"port 26379\n", told)?;
-    match mode_of(rt, text(path)?) {
+    replace(&mut store_at(rt, path)?, b"port 26379\n", told);
+    match mode_of(rt, path) {
         Ok(mode) => told.word(format!(in rt.alloc(); "{mode:o}")?.as_str()),
-        Err(_) => Err(Unplayed::NoSuchFile),
+        Err(_) => return Err(Unplayed::NoSuchFile),
     }
+    Ok(())
+}
+
+/// Takes turns with a store in memory that holds the next word.
+fn tell_turns(row: &mut Row<'_>) -> Result<(), Unplayed> {
+    let store = MemoryStore::holding(row.alloc, row.words.bytes())?;
+    take_all(row, store)
+}
+
+/// The same, with room for as many bytes as the word before it says.
+fn tell_turns_in_room(row: &mut Row<'_>) -> Result<(), Unplayed> {
+    let room = row.words.size();
+    let store = MemoryStore::with_room(row.alloc, row.words.bytes(), room)?;
+    take_all(row, store)
 }
 
 /// Tells what comes of a call with these words.
-pub(crate) fn play(
-    rt: &HostRuntime,
-    call: &str,
-    words: &[Vec<u8>],
-    told: &mut Told,
-) -> Result<(), Unplayed> {
-    let alloc = rt.alloc();
-    match (call, words) {
-        ("holding", [text, turns @ ..]) => {
-            take_all(MemoryStore::holding(alloc, text)?, turns, told)
-        }
-        ("with_room", [room, text, turns @ ..]) => {
-            let room = number(room)? as usize;
-            take_all(MemoryStore::with_room(alloc, text, room)?, turns, told)
-        }
-        ("replaced", [old, new]) => tell_put(alloc, old, new, told),
-        ("file_store", [path, texts @ ..]) => tell_file(rt, path, texts, told),
-        ("mode_after_a_store", [path, mode]) => tell_mode(rt, path, mode, told),
+pub(crate) fn play(row: &mut Row<'_>, rt: &HostRuntime) -> Result<(), Unplayed> {
+    match row.call {
+        "holding" => tell_turns(row),
+        "with_room" => tell_turns_in_room(row),
+        "replaced" => tell_put(
+            rt.alloc(),
+            row.words.bytes(),
+            row.words.bytes(),
+            &mut row.told,
+        ),
+        "file_store" => tell_file(rt, row.words.text(), row.words.rest(), &mut row.told),
+        "mode_after_a_store" => tell_mode(rt, row.words.text(), row.words.text(), &mut row.told),
         _ => Err(Unplayed::NoSuchCall),
     }
 }

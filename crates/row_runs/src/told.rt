@@ -74,6 +74,8 @@ const ROOM: usize = 65_536;
 #[derive(Drop)]
 pub(crate) struct Told {
     text: String,
+    /// Whether there was no memory for a part of them.
+    is_cut: bool,
 }
 
 impl Told {
@@ -81,6 +83,7 @@ impl Told {
     pub(crate) fn new(alloc: Global) -> Told {
         Told {
             text: String::new(alloc),
+            is_cut: false,
         }
     }
 
@@ -88,6 +91,7 @@ impl Told {
     pub(crate) fn with_room(alloc: Global) -> Result<Told, Unplayed> {
         Ok(Told {
             text: String::with_capacity(alloc, ROOM)?,
+            is_cut: false,
         })
     }
 
@@ -96,75 +100,96 @@ impl Told {
         self.text.as_str()
     }
 
-    /// Begins a word.
-    fn begin(&mut self) -> Result<(), Unplayed> {
-        if !self.text.is_empty() {
-            self.text.push(' ')?;
+    /// Whether there was no memory for a part of the words.
+    pub(crate) fn is_cut(&self) -> bool {
+        self.is_cut
+    }
+
+    /// Adds a text to the last word.
+    fn push(&mut self, text: &str) {
+        if self.text.push_str(text).is_err() {
+            self.is_cut = true;
         }
-        Ok(())
+    }
+
+    /// Adds what is shown so to the last word.
+    fn show<T: Display>(&mut self, value: &T) {
+        if write!(self.text, "{value}").is_err() {
+            self.is_cut = true;
+        }
+    }
+
+    /// Adds bytes to the last word, as a row spells them.
+    fn spell(&mut self, bytes: &[u8]) {
+        if add_spelling(&mut self.text, bytes).is_err() {
+            self.is_cut = true;
+        }
+    }
+
+    /// Begins a word.
+    fn begin(&mut self) {
+        if !self.text.is_empty() {
+            self.push(" ");
+        }
     }
 
     /// Adds a word, which has no blanks.
-    pub(crate) fn word(&mut self, word: &str) -> Result<(), Unplayed> {
-        self.begin()?;
-        self.text.push_str(word)?;
-        Ok(())
+    pub(crate) fn word(&mut self, word: &str) {
+        self.begin();
+        self.push(word);
     }
 
     /// Adds that a call that gives nothing was made.
-    pub(crate) fn ok(&mut self) -> Result<(), Unplayed> {
-        self.word("ok")
+    pub(crate) fn ok(&mut self) {
+        self.word("ok");
     }
 
     /// Adds `nothing` where no word was added.
-    pub(crate) fn nothing(&mut self) -> Result<(), Unplayed> {
+    pub(crate) fn nothing(&mut self) {
         if self.text.is_empty() {
-            return self.word("nothing");
+            self.push("nothing");
         }
-        Ok(())
     }
 
     /// Adds bytes as a word, as a row spells them.
-    pub(crate) fn bytes(&mut self, bytes: &[u8]) -> Result<(), Unplayed> {
-        self.begin()?;
-        add_spelling(&mut self.text, bytes)
+    pub(crate) fn bytes(&mut self, bytes: &[u8]) {
+        self.begin();
+        self.spell(bytes);
     }
 
     /// Adds bytes as a word after a mark.
-    pub(crate) fn marked(&mut self, mark: char, bytes: &[u8]) -> Result<(), Unplayed> {
-        self.begin()?;
-        self.text.push(mark)?;
-        add_spelling(&mut self.text, bytes)
+    pub(crate) fn marked(&mut self, mark: &str, bytes: &[u8]) {
+        self.word(mark);
+        self.spell(bytes);
     }
 
     /// Adds a number as a word after a mark.
-    pub(crate) fn signed(&mut self, mark: char, number: i64) -> Result<(), Unplayed> {
-        self.begin()?;
-        write!(self.text, "{mark}{number}")?;
-        Ok(())
+    pub(crate) fn signed(&mut self, mark: &str, number: i64) {
+        self.word(mark);
+        self.show(&number);
     }
 
     /// Adds what is shown so as a word.
-    pub(crate) fn shown<T: Display>(&mut self, value: &T) -> Result<(), Unplayed> {
-        self.begin()?;
-        write!(self.text, "{value}")?;
-        Ok(())
+    pub(crate) fn shown<T: Display>(&mut self, value: &T) {
+        self.begin();
+        self.show(value);
     }
 
     /// Adds a number as a word.
-    pub(crate) fn number(&mut self, number: u64) -> Result<(), Unplayed> {
-        self.shown(&number)
+    pub(crate) fn number(&mut self, number: u64) {
+        self.shown(&number);
     }
 
     /// Adds a name and a number in brackets as a word.
-    pub(crate) fn numbered(&mut self, name: &str, number: u64) -> Result<(), Unplayed> {
-        self.begin()?;
-        write!(self.text, "{name}({number})")?;
-        Ok(())
+    pub(crate) fn numbered(&mut self, name: &str, number: u64) {
+        self.word(name);
+        self.push("(");
+        self.show(&number);
+        self.push(")");
     }
 
     /// Adds a number as a word, or `None`.
-    pub(crate) fn maybe_number(&mut self, number: Option<u64>) -> Result<(), Unplayed> {
+    pub(crate) fn maybe_number(&mut self, number: Option<u64>) {
         match number {
             Some(number) => self.number(number),
             None => self.word("None"),
@@ -172,36 +197,42 @@ impl Told {
     }
 
     /// Adds a number as a word, in hexadecimal.
-    pub(crate) fn hexadecimal(&mut self, number: u128) -> Result<(), Unplayed> {
-        self.begin()?;
-        write!(self.text, "{number:x}")?;
-        Ok(())
+    pub(crate) fn hexadecimal(&mut self, number: u128) {
+        self.begin();
+        if write!(self.text, "{number:x}").is_err() {
+            self.is_cut = true;
+        }
     }
 
     /// Adds `true` or `false`.
-    pub(crate) fn yes(&mut self, is_so: bool) -> Result<(), Unplayed> {
-        self.word(if is_so { "true" } else { "false" })
+    pub(crate) fn yes(&mut self, is_so: bool) {
+        self.word(if is_so { "true" } else { "false" });
     }
 
     /// Adds an address as a word.
-    pub(crate) fn address(&mut self, addr: Addr) -> Result<(), Unplayed> {
-        self.bytes(ip_text(addr.ip).as_slice())?;
-        write!(self.text, ":{}", addr.port)?;
-        Ok(())
+    pub(crate) fn address(&mut self, addr: Addr) {
+        self.bytes(ip_text(addr.ip).as_slice());
+        self.push(":");
+        self.show(&addr.port);
     }
 
     /// Adds an address as a word, or `None`.
-    pub(crate) fn maybe_address(&mut self, addr: Option<Addr>) -> Result<(), Unplayed> {
+    pub(crate) fn maybe_address(&mut self, addr: Option<Addr>) {
         match addr {
             Some(addr) => self.address(addr),
             None => self.word("None"),
         }
     }
 
+    /// Adds a run id as a word.
+    pub(crate) fn id(&mut self, id: RunId) {
+        self.bytes(run_id_text(id).as_slice());
+    }
+
     /// Adds a run id as a word, or `None`.
-    pub(crate) fn maybe_id(&mut self, id: Option<RunId>) -> Result<(), Unplayed> {
+    pub(crate) fn maybe_id(&mut self, id: Option<RunId>) {
         match id {
-            Some(id) => self.bytes(run_id_text(id).as_slice()),
+            Some(id) => self.id(id),
             None => self.word("None"),
         }
     }

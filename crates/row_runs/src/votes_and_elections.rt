@@ -1,7 +1,7 @@
 //! The own vote of a Sentinel for one master, and the votes of others that it heard of.
 
-use crate::given::{id, maybe_id, number, number_16, number_32};
-use crate::told::{Told, Unplayed};
+use crate::told::Unplayed;
+use crate::words::Row;
 use ballot_law::RunId;
 use std::alloc::Global;
 use vote_book::{Heard, VoteBook, elected};
@@ -48,68 +48,58 @@ impl Votes {
     }
 
     /// Tells what comes of a call about the own vote.
-    fn play_book(
-        &mut self,
-        call: &str,
-        words: &[Vec<u8>],
-        told: &mut Told,
-    ) -> Result<(), Unplayed> {
-        match (call, words) {
-            ("book", [current, voted, candidate]) => {
-                self.start(number(current)?, number(voted)?, maybe_id(candidate)?)?;
-                told.ok()
+    fn play_book(&mut self, row: &mut Row<'_>) -> Result<(), Unplayed> {
+        match row.call {
+            "book" => {
+                self.start(row.words.number(), row.words.number(), row.words.maybe_id())?;
+                row.told.ok();
             }
-            ("ask", [epoch, candidate]) => {
-                let answer = self.book.ask(number(epoch)?, id(candidate)?);
-                told.maybe_id(answer.leader)?;
-                told.number(answer.epoch)
+            "ask" => {
+                let answer = self.book.ask(row.words.number(), row.words.id());
+                row.told.maybe_id(answer.leader);
+                row.told.number(answer.epoch);
             }
-            ("campaign", []) => told.maybe_number(self.book.open_campaign()),
-            ("raise", [epoch]) => {
-                self.book.raise(number(epoch)?);
-                told.ok()
+            "campaign" => row.told.maybe_number(self.book.open_campaign()),
+            "raise" => {
+                self.book.raise(row.words.number());
+                row.told.ok();
             }
-            ("current", []) => told.number(self.book.current()),
-            ("voted", []) => {
-                told.maybe_id(self.book.leader())?;
-                told.number(self.book.voted())
+            "current" => row.told.number(self.book.current()),
+            "voted" => {
+                row.told.maybe_id(self.book.leader());
+                row.told.number(self.book.voted());
             }
-            _ => Err(Unplayed::NoSuchCall),
+            _ => return Err(Unplayed::NoSuchCall),
         }
+        Ok(())
     }
 
     /// Tells what comes of a call with these words.
-    pub(crate) fn play(
-        &mut self,
-        call: &str,
-        words: &[Vec<u8>],
-        told: &mut Told,
-    ) -> Result<(), Unplayed> {
-        match (call, words) {
-            ("heard", [voters]) => {
-                self.heard = Heard::new(self.alloc, number_16(voters)?)?;
-                told.ok()
+    pub(crate) fn play(&mut self, row: &mut Row<'_>) -> Result<(), Unplayed> {
+        match row.call {
+            "heard" => {
+                self.heard = Heard::new(self.alloc, row.words.number_16())?;
+                row.told.ok();
             }
-            ("hear", [voter, candidate, epoch]) => {
-                self.hear(number_16(voter)?, id(candidate)?, number(epoch)?)?;
-                told.ok()
+            "hear" => {
+                self.hear(row.words.number_16(), row.words.id(), row.words.number())?;
+                row.told.ok();
             }
-            ("count", [epoch, candidate]) => {
-                let count = self.heard.count(number(epoch)?, id(candidate)?);
-                told.number(u64::from(count))
-            }
-            ("pick", [epoch, candidate]) => {
-                let pick = self.heard.pick(number(epoch)?, id(candidate)?);
-                told.maybe_id(Some(pick))
-            }
-            ("elected", [epoch, candidate, need]) => told.yes(elected(
+            "count" => row.told.number(u64::from(
+                self.heard.count(row.words.number(), row.words.id()),
+            )),
+            "pick" => row
+                .told
+                .id(self.heard.pick(row.words.number(), row.words.id())),
+            "elected" => row.told.yes(elected(
                 &self.book,
                 &self.heard,
-                number(epoch)?,
-                id(candidate)?,
-                number_32(need)?,
+                row.words.number(),
+                row.words.id(),
+                row.words.number_32(),
             )),
-            _ => self.play_book(call, words, told),
+            _ => return self.play_book(row),
         }
+        Ok(())
     }
 }
