@@ -33,10 +33,12 @@ import kit
 PROGRAM = os.environ.get("SENTINEL_GROUP") or kit.kept("proved") or kit.kept("unproved") or os.path.join(kit.OUT, "proved", kit.PROGRAM)
 PACKAGES = {
     "cc": "apt-get install gcc",
+    "dpkg-deb": "apt-get install dpkg",
     "haproxy": "apt-get install haproxy",
     "ip": "apt-get install iproute2",
     "nsenter": "apt-get install util-linux",
     "prometheus-redis-exporter": "apt-get install prometheus-redis-exporter",
+    "prometheus": "apt-get install prometheus",
     "promtool": "apt-get install prometheus",
     "redis-benchmark": "apt-get install redis-tools",
     "redis-cli": "apt-get install redis-tools",
@@ -45,6 +47,8 @@ PACKAGES = {
     "rt": "the toolchain of Rattle, whose folder of commands stands in PATH",
     "strace": "apt-get install strace",
     "tclsh": "apt-get install tcl",
+    "wg": "apt-get install wireguard-tools",
+    "wg-quick": "apt-get install wireguard-tools",
 }
 FIRST_PORT, LAST_PORT = 10_000, 32_000  # below the ports that a system gives to connections
 LONG = 300  # seconds after which what doesn't come is given up: only a run that fails waits so long

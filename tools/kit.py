@@ -21,6 +21,8 @@ import sys
 import threading
 import time
 
+import edits
+
 TOP = os.path.dirname(os.path.dirname(os.path.realpath(__file__)))
 OUT = f"{TOP}/out"
 PROGRAM = "sentinel_group"
@@ -34,7 +36,7 @@ def load():
     """rt's own code, as a module, made ready to run commands that end when this process ends."""
     path = shutil.which("rt")
     if not path:
-        sys.exit('rt, the command of the Rattle kit, is not on PATH: README.md tells of it under "Run it"')
+        sys.exit('rt, the command of the Rattle kit, is not on PATH: README.md tells of it under "Build it"')
     loader = importlib.machinery.SourceFileLoader("rt_itself", os.path.realpath(path))
     rt = importlib.util.module_from_spec(importlib.util.spec_from_loader("rt_itself", loader))
     sys.modules["rt_itself"] = rt
@@ -320,6 +322,9 @@ class Libraries:
 def main():
     here, rt = os.getcwd(), load()
     os.chdir(here)
+    # (kit 13f keeps what came of an edit by its own trial)
+    if not hasattr(rt, "Kept"):
+        rt.must_fail_all = edits.gate_trial(rt)
     sys.exit(rt.main(sys.argv[1:]))
 
 

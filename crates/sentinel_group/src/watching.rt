@@ -1,14 +1,9 @@
 //! `watch`: one Sentinel that watches Redis servers.
 
-ghost use Rattle.std.specs.Prelude.{◌≡◌, ◌≢◌, [], map, Ok, IfOk, IfSome};
+ghost use Rattle.std.specs.Prelude.{◌≡◌, ◌≢◌, ◌++◌, ◌∷◌, [], map, Ok, IfOk, IfSome, OnOk};
 ghost use Rattle.sentinel_conf.specs.Reading.{conf_of_bytes};
-ghost use Rattle.sentinel_conf.specs.Meaning.{last};
-ghost use Rattle.sentinel_conf.specs.Watch.WatchConfs.{sent_pass, sent_user};
-ghost use Rattle.sentinel_conf.specs.Watch.WatchLines.{own_pass_of};
-ghost use Rattle.sentinel_group.specs.ToldSettings.{IsSaidIn};
-ghost use Rattle.sentinel_runner.specs.Opening.{reboots_in};
+ghost use Rattle.sentinel_group.specs.ToldSettings.{AreOfOthers, IsSaidIn, IsToldAs, LetsIn, ListensAt, ips_of, place_at, place_in};
 ghost use Rattle.sentinel_runner.specs.declared.loaded_conf.Unloaded.TheVariants.{Unreadable};
-ghost use Rattle.tcp_transport.specs.Logins.{login_in};
 
 use crate::command_line::port_threads_of;
 use crate::conf_paths::ConfPath;
@@ -19,18 +14,18 @@ use crate::noted_store::{NotedFile, NotedStore, TellsFault};
 use crate::ready_files::ReadyFile;
 use crate::starting::note_sentinel;
 use crate::telling::{note_watch, tell_faults, tell_watch};
-use ballot_law::Text;
+use ballot_law::{Member, Text};
 use clap::ArgMatches;
 use client_port::{Admission, PortAddress, ReadsTimes};
 use log::{LevelFilter, Log, info};
-use sentinel_conf::{Conf, ConfStore, WatchConf, WatchFault, WatchKind, read_watch};
+use sentinel_conf::{Bind, Conf, ConfStore, WatchConf, WatchFault, WatchKind, read_watch};
 use sentinel_core::ServeFault;
 use sentinel_rules::Profile;
 use sentinel_runner::{
     GroupFault, LoadedConf, PortSettings, Unloaded, Watch, WatchSettings, reboots_of,
 };
 use std::alloc::{AllocError, Global};
-use std::net::{Ipv4Addr, Net, SocketAddr};
+use std::net::{Ipv4Addr, Net, SocketAddr, SocketAddrV4};
 use std::process::ExitCode;
 use std::rt::Clock;
 use std::sync::Wait;
@@ -82,14 +77,29 @@ pub(crate) fn refuse_watch(
     }
 }
 
-/// The ip of each other Sentinel of the group.
-fn peers_of(alloc: Global, conf: &Conf) -> Result<Vec<u32>, AllocError> {
-    let mut peers = Vec::new(alloc);
-    for (place, member) in conf.roster().sentinels().iter().enumerate() {
-        if place != usize::from(conf.place()) {
-            peers.push(member.addr.ip)?;
-        }
+/// Adds the ip of each of these Sentinels.
+fn add_ips(ips: &mut Vec<u32>, members: &[Member]) -> Result<(), AllocError>
+    ensures { OnOk result (ips.new.items ≡ ips.old.items ++ ips_of members.now) }
+{
+    let mut rest = members;
+    while let [member, more @ ..] = rest {
+        ips.push(member.addr.ip)?;
+        rest = more;
     }
+    Ok(())
+}
+
+/// The ip of each other Sentinel of the group.
+#[tactic(auto, using(crate::proofs::ToldSettings::others_are))]
+fn peers_of(alloc: Global, conf: &Conf) -> Result<Vec<u32>, AllocError>
+    ensures { IfOk result (λ peers. AreOfOthers conf.now peers.items) }
+{
+    let (sentinels, own) = (conf.roster().sentinels(), usize::from(conf.place()));
+    let mut peers = Vec::new(alloc);
+    let (before, _) = sentinels.split_at(own);
+    let (_, after) = sentinels.split_at(own + 1);
+    add_ips(&mut peers, before)?;
+    add_ips(&mut peers, after)?;
     Ok(peers)
 }
 
@@ -97,7 +107,7 @@ fn peers_of(alloc: Global, conf: &Conf) -> Result<Vec<u32>, AllocError> {
 /// whichever ips it listens. Where as many clients are there as may be, the client goes that has been silent for
 /// longest; seats for the other Sentinels are kept.
 fn admission_of(alloc: Global, conf: &Conf, watch: &WatchConf) -> Result<Admission, AllocError>
-    ensures { IfOk result (λ admission. admission.password ≡ last own_pass_of [] watch.now) }
+    ensures { IfOk result (LetsIn conf.now watch.now) }
 {
     let password = Vec::from_slice(alloc, watch.own_pass())?;
     Ok(Admission {
@@ -109,18 +119,39 @@ fn admission_of(alloc: Global, conf: &Conf, watch: &WatchConf) -> Result<Admissi
     })
 }
 
+/// The address of this port at this ip.
+fn address_at(bind: &Bind, port: u16) -> PortAddress
+    ensures { place_in result ≡ place_at port bind.now }
+{
+    let ip = Ipv4Addr::from_octets(bind.ip);
+    PortAddress {
+        address: SocketAddr::V4(SocketAddrV4::new(ip, port)),
+        may_lack: bind.may_lack,
+    }
+}
+
+/// Adds the address of this port at this ip.
+#[tactic(auto, using(crate::proofs::ToldSettings::shown_more))]
+fn add_address(addresses: &mut Vec<PortAddress>, bind: &Bind, port: u16) -> Result<(), AllocError>
+    ensures { OnOk result (map place_in addresses.new.items ≡ map place_in addresses.old.items ++ place_at port bind.now ∷ []) }
+{
+    addresses.push(address_at(bind, port))?;
+    Ok(())
+}
+
 /// At which addresses its port listens.
 fn addresses_of(
     alloc: Global,
     conf: &Conf,
     watch: &WatchConf,
-) -> Result<Vec<PortAddress>, AllocError> {
+) -> Result<Vec<PortAddress>, AllocError>
+    ensures { IfOk result (λ addresses. ListensAt conf.now watch.now addresses.items) }
+{
     let mut addresses = Vec::new(alloc);
-    for bind in watch.binds() {
-        addresses.push(PortAddress {
-            address: SocketAddr::from((Ipv4Addr::from(bind.ip), conf.port())),
-            may_lack: bind.may_lack,
-        })?;
+    let mut rest = watch.binds();
+    while let [bind, more @ ..] = rest {
+        add_address(&mut addresses, bind, conf.port())?;
+        rest = more;
     }
     Ok(addresses)
 }
@@ -132,11 +163,7 @@ fn taken_settings(
     watch: &WatchConf,
     port: PortSettings,
 ) -> Result<WatchSettings, AllocError>
-    ensures reboots { IfOk result (λ settings. settings.reboots.items ≡ reboots_in watch.now conf.now.roster) }
-    ensures password { IfOk result (λ settings. settings.admission.password ≡ last own_pass_of [] watch.now) }
-    ensures masters { IfOk result (λ settings. settings.logins.of_masters.items ≡ map (login_in watch.now) conf.now.roster.masters) }
-    ensures sentinels { IfOk result (λ settings. settings.logins.of_sentinels
-        ≡ record { user = sent_user watch.now; pass = sent_pass watch.now }) }
+    ensures { IfOk result (IsToldAs conf.now watch.now) }
 {
     Ok(WatchSettings {
         addresses: addresses_of(alloc, conf, watch)?,
@@ -157,7 +184,7 @@ fn port_of(words: &ArgMatches) -> PortSettings {
 }
 
 /// What the lines of a file say that count for `watch` alone. A fault is told, and the status tells it too.
-/// Contracts see for how long each master may load its data, and the passwords.
+/// Contracts see all that these say.
 fn settings_of(
     rt: HostRuntime,
     path: &str,

@@ -12,6 +12,8 @@ ghost use Rattle.sentinel_runtime.specs.Saying.{IsNoted, IsReleased};
 ghost use Rattle.sentinel_runner.specs.declared.group_fault.GroupFault.TheVariants.{NotOneRoster};
 ghost use Rattle.sentinel_runner.specs.declared.opened.TheConstants.{PORT_THREADS_MAX};
 ghost use Rattle.sentinel_runner.specs.declared.watch.TheConstants.{BESIDE};
+ghost use Rattle.links.specs.declared.target.Target.{Target};
+ghost use Rattle.tcp_transport.specs.Places.{IsOfRoster, IsPlaceOf};
 
 use crate::group::outcome;
 use crate::group_fault::GroupFault;
@@ -100,6 +102,7 @@ fn wires_of<R: Net>(
     logins: Logins,
 ) -> Result<PlannedConnections, GroupFault>
     ensures nodes { IfOk result (λ wires. wires.roster ≡ conf.now.roster) }
+    ensures own { IfOk result (λ wires. IsPlaceOf conf.now.roster conf.now.id wires.own) }
     ensures logins { IfOk result (λ wires. wires.logins ≡ logins) }
     ensures roster { IfErr result (λ fault. fault ≢ NotOneRoster) }
 {
@@ -221,7 +224,8 @@ impl<S: ConfStore + Drop> Watch<S> {
     /// the conf keeps is stored once its port is had, which is served after that: where the port can't be had the store
     /// is as it was.
     ///
-    /// Each thread of the port wants the password of the settings, and the connections begin with the settings' logins.
+    /// Each thread of the port wants the password of the settings. The connections are those of the conf's Sentinel to
+    /// the other nodes of its roster, and begin with the settings' logins.
     ///
     /// `Halted` where the store refuses the text, `PortRefused` where a port can't be had, or would have to want a
     /// password of clients by a strict profile, which asks nobody for one, and `NoMemory`: `NotOneRoster` never comes.
@@ -240,7 +244,8 @@ impl<S: ConfStore + Drop> Watch<S> {
         ensures client { IfOk result (λ watch. watch.watching.opened.port.clients.terms.password ≡ settings.admission.password) }
         ensures clients { IfOk result (λ watch. All (λ port. port.clients.terms.password ≡ settings.admission.password)
             watch.watching.opened.others.items) }
-        ensures logins { IfOk result (λ watch. (watch.wires.logins ≡ settings.logins) × (watch.wires.roster ≡ loaded.conf.roster)) }
+        ensures wires { IfOk result (λ watch. (watch.wires.roster ≡ loaded.conf.roster) × IsPlaceOf loaded.conf.roster loaded.conf.id watch.wires.own) }
+        ensures logins { IfOk result (λ watch. watch.wires.logins ≡ settings.logins) }
         ensures roster { IfErr result (λ fault. fault ≢ NotOneRoster) }
     {
         let WatchSettings {
@@ -326,14 +331,15 @@ where
     requires says { (message : Message) → IsReleased watching.opened.fresh.cell.start message → ∥ J.said message ∥₁ }
     requires notes { (note : Note) (number : ℕ) → IsNoted watching.opened.fresh.cell.start note number → ∥ J.noted note number ∥₁ }
     requires told { (event : Event) → ∥ J.told event ∥₁ }
+    requires reaches { (target : Target) → IsOfRoster wires.roster target → ∥ J.reaches target ∥₁ }
     ensures { IfSome result (IsLeftByTurns J.told S.held S.failure_count watching.opened.fresh.cell.start) }
 {
     run_over::<J, S, NetSockets<'_, J, N>, R>(rt, NetSockets::of(net), state, watching, wires)
 }
 
-/// Runs the threads of a Sentinel that has a name for proofs, until all have ended; this one has the connections, since
-/// a thread that is started gets no handle for sockets. What is left of it then; none where a thread or its room
-/// couldn't be made.
+/// Runs the threads of a Sentinel that has a name for proofs, until all have ended; this one has the connections, each
+/// to a node of their roster, since a thread that is started gets no handle for sockets. What is left of it then; none
+/// where a thread or its room couldn't be made.
 fn run_over<J: Which + Send + Sync, S: ConfStore + Drop + Send, C: Connects<J> + Drop, R>(
     rt: &R,
     sockets: C,
@@ -346,6 +352,7 @@ where
     requires named { watching.opened.fresh.cell.id ≡ J.cell }
     requires says { (message : Message) → IsReleased watching.opened.fresh.cell.start message → ∥ J.said message ∥₁ }
     requires notes { (note : Note) (number : ℕ) → IsNoted watching.opened.fresh.cell.start note number → ∥ J.noted note number ∥₁ }
+    requires reaches { (target : Target) → IsOfRoster wires.roster target → ∥ J.reaches target ∥₁ }
     ensures { IfSome result (IsLeftByTurns J.told S.held S.failure_count watching.opened.fresh.cell.start) }
 {
     let Watching { opened, alloc } = watching;

@@ -83,7 +83,11 @@ pub fn answer_plainly(plan: &Plan, core: &mut Core, now: u64, command: &Command)
             addr,
             epoch,
             candidate,
-        } => Some(answer_down(plan, core, now, addr, epoch, candidate)),
+        } => {
+            let heeded = plan.candidate_heeded(candidate);
+            core.note_ghost(now, candidate, heeded);
+            Some(answer_down(plan, core, now, addr, epoch, heeded))
+        }
         Command::GetMasterAddrByName(name) => {
             Some(Body::AddressAnswer(shown_by_name(plan, core, name)))
         }
@@ -363,7 +367,7 @@ fn answer_switch_at(
     ensures core { core.new ≡ (switch_at plan.now m (clock now) core.old).core }
     ensures body { result ≡ (switch_at plan.now m (clock now) core.old).body }
 {
-    if core.is_failing_over(m) || core.is_wished(m, now) {
+    if core.is_in_progress(m, now) {
         return answer_in_progress(text, shown);
     }
     if core.is_tilted() {

@@ -5,7 +5,8 @@ ghost use Rattle.sentinel_rules.specs.declared.periods.TheConstants.{BUSY_INFO_M
 ghost use Rattle.ballot_law.specs.declared.rosters.TheConstants.{NODES_MAX, SENTINELS_MAX};
 ghost use Rattle.ballot_law.specs.Clocks.{clock};
 ghost use Rattle.sentinel_rules.specs.Parts.{changed_from, frames_from};
-ghost use Rattle.sentinel_rules.specs.Ticks.{is_due, sent_at, ping_period, is_peer_due, peer_after, peer_frames, had_link_down, is_at, is_ping_due, is_info_due, is_hello_due, node_after, node_frames};
+ghost use Rattle.sentinel_rules.specs.States.{is_at};
+ghost use Rattle.sentinel_rules.specs.Ticks.{is_due, sent_at, ping_period, is_peer_due, peer_after, peer_frames, had_link_down, is_ping_due, is_info_due, is_hello_due, node_after, node_frames};
 ghost use Rattle.sentinel_state.specs.Nodes.Room.{added};
 
 use crate::nodes::contacts::wait;
@@ -121,7 +122,7 @@ fn had_link_down(info: Option<Info>) -> bool
 }
 
 /// Whether this is the place.
-fn is_at(place: Option<u16>, k: usize) -> bool
+pub(crate) fn is_at(place: Option<u16>, k: usize) -> bool
     ensures { result ≡ is_at place k }
 {
     match place {
