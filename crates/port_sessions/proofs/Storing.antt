@@ -8,7 +8,7 @@ use Rattle.sentinel_rules.specs.Plans.{Plan}
 use Rattle.sentinel_rules.specs.Profiles.{by_profile}
 use Rattle.sentinel_rules.specs.declared.profiles.Profile.{Profile}
 use Rattle.sentinel_rules.specs.declared.profiles.Profile.TheVariants.{Strict, Redis}
-use Rattle.sentinel_rules.specs.States.{Core, is_failing_over, is_tilted, is_wished}
+use Rattle.sentinel_rules.specs.States.{Core, is_tilted, is_in_progress}
 use Rattle.port_sessions.specs.Laws.{OthersStoreNothing}
 
 either : (b : Bool) (x y : Answered) (core : Core) → x.core.kept ≡ core.kept → y.core.kept ≡ core.kept → (if b then x else y).core.kept ≡ core.kept
@@ -26,7 +26,7 @@ asked_keeps plan now addr epoch (Some m) core = refl
 switch_keeps : (plan : Plan) (now : ℕ) (m : Option ℕ) (core : Core) → (asked_to_switch plan now m core).core.kept ≡ core.kept
 switch_keeps plan now None core = refl
 switch_keeps plan now (Some m) core =
-    either (is_failing_over core m || is_wished core m now) _ _ core refl
+    either (is_in_progress core m now) _ _ core refl
     (either (is_tilted core) _ _ core refl (either (has_heir plan core m now) _ _ core refl refl))
 
 pub others_store_nothing : OthersStoreNothing

@@ -13,6 +13,8 @@ fn master_word(what: MasterNotice) -> &'static str {
         MasterNotice::Begun => "Begun",
         MasterNotice::Elected => "Elected",
         MasterNotice::NotElected => "NotElected",
+        MasterNotice::Back => "Back",
+        MasterNotice::Late => "Late",
         MasterNotice::NoReplica => "NoReplica",
         MasterNotice::NotPromoted => "NotPromoted",
         MasterNotice::Ended => "Ended",

@@ -37,11 +37,12 @@ use Rattle.resp2.specs.declared.command.CommandFault.TheVariants.{UnknownCommand
 use Rattle.sentinel_rules.specs.declared.profiles.Profile.{Profile}
 use Rattle.sentinel_rules.specs.declared.profiles.Profile.TheVariants.{Strict, Redis}
 use Rattle.sentinel_rules.specs.Plans.{Plan, roster_of, me, group_size, master_count, node_named}
-use Rattle.sentinel_rules.specs.States.{is_master_role, Core, master_of, failover_of, card_place, is_failing_over, is_tilted, with_master, with_failover, with_current, with_card, is_wished, is_handed, is_planned}
+use Rattle.sentinel_rules.specs.States.{is_master_role, Core, master_of, failover_of, card_place, is_failing_over, is_tilted, with_master, with_failover, with_current, with_card, is_handed, is_planned, is_in_progress}
 use Rattle.sentinel_rules.specs.Parts.{Part, quiet, part_if}
 use Rattle.sentinel_rules.specs.Profiles.{is_asking, is_redis, election_ms, marked_at, marked, rest_of, rested, by_profile, candidate_place}
+use Rattle.sentinel_rules.specs.Endings.{is_vain, given_up, is_overtaken, taken_up, let_go}
 use Rattle.sentinel_rules.specs.Votes.{book_of, with_book, mark_for, requested}
-use Rattle.sentinel_rules.specs.Ticks.{peers_part, nodes_part, odown_part, ask_part, ask_candidate, ask_frames, is_ask_due, with_vote, with_win, turn_of, campaign_epoch, row_part, after_start, start_turn, starts_now, start_part, failover_part, judging_part, master_part, with_reading, tick, planned_start, with_plan}
+use Rattle.sentinel_rules.specs.Ticks.{peers_part, nodes_part, odown_kept, odown_part, ask_part, ask_candidate, ask_frames, is_ask_due, with_vote, with_win, turn_of, campaign_epoch, row_part, after_start, start_turn, starts_now, start_part, failover_part, judging_part, master_part, with_reading, tick, planned_start, with_plan}
 use Rattle.sentinel_rules.specs.News.{at_same_address, at_new_address, card_taken, is_heeded, is_newer, raised_to, adopted, hello_of_known, hello_heeded, hello_read, reported, vote_heard, answered, pinged_at, peer_lost, lost_at, connection_lost, disconnected, pinged, info_kept, promotion, has_followed, reconfiguration, correction, is_reconfiguring, judged, info_at_node, info_of_node, info_read, refusal_at, refusal_heard, with_frames, closing_frames, greeted_at, greeted, announced_at}
 use Rattle.sentinel_rules.specs.Answers.{asked_of, master_with_card, commanded, Answered, unchanged, reply, named, has_heir, wished, asked_to_switch}
 use Rattle.sentinel_rules.specs.Takes.{next, next_at, cleared}
@@ -152,11 +153,23 @@ failover_touches plan m now core =
     (chained m core first second (start_touches plan m now core) (if_part m first (is_failing_over first m) (row_part plan m now) (row_touches plan m now first)))
     (ask_touches plan m now (starts_now plan core m now) second)
 
+let_go_touches : (plan : Plan) (m now : ℕ) (core : Core) → Touches m core (let_go plan m now core)
+let_go_touches plan m now core = by_rule plan.profile (is_vain plan core m now) (is_overtaken plan core m now)
+  where
+    by_rule : (profile : Profile) (vain overtaken : Bool) →
+        Touches m core (by_profile profile core (if vain then given_up plan m now core else (if overtaken then taken_up m now core else core)))
+    by_rule Strict vain overtaken = stays m core
+    by_rule Redis true overtaken = λ k apart. refl
+    by_rule Redis false true = λ k apart. refl
+    by_rule Redis false false = stays m core
+
 judging_touches : (plan : Plan) (m now : ℕ) (core : Core) → Touches m core (judging_part plan m now core).core
 judging_touches plan m now core =
     let first : Core = (odown_part plan m now core).core in
     by_part m core (not (is_tilted core)) (record { core = (failover_part plan m now first).core; frames = _ }) (quiet core)
-    (chained m core first (failover_part plan m now first).core (λ k apart. refl) (failover_touches plan m now first))
+    (chained m core first (failover_part plan m now first).core
+    (chained m core (odown_kept plan m now core) first (λ k apart. refl) (let_go_touches plan m now (odown_kept plan m now core)))
+    (failover_touches plan m now first))
     (stays m core)
 
 tick_touches : (plan : Plan) (m random now : ℕ) (core : Core) → Touches m core (tick plan m random now core).core
@@ -366,7 +379,7 @@ switch_changes plan m now false false false core = same None core
 
 asked_changes : (plan : Plan) (now : ℕ) (m : Option ℕ) (core : Core) → At None core (asked_to_switch plan now m core).core
 asked_changes plan now None core = same None core
-asked_changes plan now (Some m) core = switch_changes plan m now (is_failing_over core m || is_wished core m now) (is_tilted core) (has_heir plan core m now) core
+asked_changes plan now (Some m) core = switch_changes plan m now (is_in_progress core m now) (is_tilted core) (has_heir plan core m now) core
 
 either_changes : (core : Core) (profile : Profile) (strict redis : Answered) → At None core strict.core → At None core redis.core → At None core (by_profile profile strict redis).core
 either_changes core Strict strict redis f g = f

@@ -12,12 +12,12 @@ use Rattle.replica_choice.specs.declared.candidates.Candidate.{Candidate}
 use Rattle.replica_choice.specs.declared.candidates.Limits.{Limits}
 use Rattle.replica_choice.specs.Choices.{is_eligible, is_better, candidate_at, no_candidate, with_place, choice_below, choice_of}
 use Rattle.ballot_law.proofs.CountedVotes.{both, eqb-same}
-use Rattle.sentinel_rules.specs.Profiles.{by_profile, place_followed, passing, is_taking_over, switched_to, is_given_away, first_of}
+use Rattle.sentinel_rules.specs.Profiles.{by_profile, passing, is_taking_over, switched_to, is_given_away, first_of}
 use Rattle.sentinel_rules.specs.declared.profiles.Profile.{Profile}
 use Rattle.sentinel_rules.specs.declared.profiles.Profile.TheVariants.{Strict, Redis}
 use Rattle.sentinel_rules.specs.declared.assumed.TheConstants.{ASSUMED_INFO}
 use Rattle.sentinel_rules.specs.Plans.{Plan, master_count, nodes_of, addr_at, node_place}
-use Rattle.sentinel_rules.specs.States.{Core, node_of, card_place, is_node_down}
+use Rattle.sentinel_rules.specs.States.{Core, node_of, card_place, is_node_down, place_followed}
 use Rattle.sentinel_rules.specs.Ticks.{at_places, candidate_of, candidates_of, limits_of, best_of, best_place}
 use Rattle.sentinel_rules.specs.Answers.{numbers_from}
 use Rattle.sentinel_rules.specs.Facts.{IsSoundPlan}

@@ -30,7 +30,7 @@ use Rattle.sentinel_rules.specs.declared.profiles.Profile.{Profile}
 use Rattle.sentinel_rules.specs.declared.profiles.Profile.TheVariants.{Strict, Redis}
 use Rattle.ballot_law.proofs.RosterLemmas.{named_master}
 use Rattle.sentinel_rules.specs.Plans.{Plan, roster_of, me, master_count}
-use Rattle.sentinel_rules.specs.States.{Core, is_tilted, is_master_down, master_of, is_failing_over, is_wished}
+use Rattle.sentinel_rules.specs.States.{Core, is_tilted, is_master_down, master_of, is_in_progress}
 use Rattle.sentinel_rules.specs.Parts.{Part, quiet, send, shown_of}
 use Rattle.sentinel_rules.specs.Votes.{requested}
 use Rattle.sentinel_rules.specs.News.{answered, pinged, disconnected, info_read, hello_read, refusal_heard}
@@ -77,7 +77,7 @@ switch_steps : (plan : Plan) (event : Event) (m now : ℕ) (busy tilted heir : B
 switch_steps plan event m now true tilted heir core lt = stay_steps plan event 2 core
 switch_steps plan event m now false true heir core lt = stay_steps plan event 2 core
 switch_steps plan event m now false false true core lt =
-    twin_steps plan event 2 m core (wished m now core) lt (twin_master core m (record (master_of core m) { wish = Some now }) lt refl)
+    twin_steps plan event 2 m core (wished m now core) lt (twin_master core m (record (master_of core m) { wish = Some now; planned = None }) lt refl)
 switch_steps plan event m now false false false core lt = stay_steps plan event 2 core
 
 named_inside : (plan : Plan) (name : Option (List ℕ)) (m : ℕ) → named plan name ≡ Some m → m < master_count plan
@@ -88,7 +88,7 @@ asked_switch_steps : (plan : Plan) (event : Event) (now : ℕ) (m : Option ℕ) 
     StepsTo plan event 2 core (asked_to_switch plan now m core).core
 asked_switch_steps plan event now None core s f = stay_steps plan event 2 core
 asked_switch_steps plan event now (Some m) core s f =
-    switch_steps plan event m now (is_failing_over core m || is_wished core m now) (is_tilted core) (has_heir plan core m now) core (within_core plan core m s (f m refl))
+    switch_steps plan event m now (is_in_progress core m now) (is_tilted core) (has_heir plan core m now) core (within_core plan core m s (f m refl))
 
 either_steps : (plan : Plan) (event : Event) (core : Core) (profile : Profile) (strict redis : Answered) → StepsTo plan event 2 core strict.core → StepsTo plan event 2 core redis.core →
     StepsTo plan event 2 core (by_profile profile strict redis).core
@@ -168,7 +168,7 @@ asked_switch_right : (plan : Plan) (parts : Parts) (target : NodeName) (now : �
     IsRightBody plan parts target (asked_to_switch plan now m core).body
 asked_switch_right plan parts target now None core = bare_right plan core parts target no_such_master
 asked_switch_right plan parts target now (Some m) core =
-    switch_right plan parts target m now (is_failing_over core m || is_wished core m now) (is_tilted core) (has_heir plan core m now) core
+    switch_right plan parts target m now (is_in_progress core m now) (is_tilted core) (has_heir plan core m now) core
 
 either_right : (plan : Plan) (parts : Parts) (target : NodeName) (profile : Profile) (strict redis : Answered) → IsRightBody plan parts target strict.body →
     IsRightBody plan parts target redis.body → IsRightBody plan parts target (by_profile profile strict redis).body
@@ -238,7 +238,7 @@ take_of_part plan core parts event most part few p is sound leads frames =
 input_by : (plan : Plan) (core : Core) (parts : Parts) (now : ℕ) (event : Event) → IsSoundPlan plan → IsSound plan (cleared core) → IsPartsOf core parts → IsWithinEvent event
     → IsTake plan core parts event (next_at plan now event (cleared core)).core (next_at plan now event (cleared core)).outputs
 input_by plan core parts now (Tick m random) p s is h =
-    take_of_part plan core parts (Tick m random) 3 (tick plan m random now (cleared core)) (omega arith) p is (tick_keeps plan m random now (cleared core) p s).sound
+    take_of_part plan core parts (Tick m random) 4 (tick plan m random now (cleared core)) (omega arith) p is (tick_keeps plan m random now (cleared core) p s).sound
     (tick_steps plan (Tick m random) m random now (cleared core) p s refl) (tick_frames plan m random now (cleared core))
 input_by plan core parts now (Commanded sender command) p s is h =
     let done : Answered = commanded plan now command (cleared core) in

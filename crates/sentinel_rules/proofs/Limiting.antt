@@ -23,7 +23,7 @@ use Rattle.sentinel_rules.specs.Profiles.{by_profile}
 use Rattle.sentinel_rules.specs.declared.profiles.Profile.{Profile}
 use Rattle.sentinel_rules.specs.declared.profiles.Profile.TheVariants.{Strict, Redis}
 use Rattle.sentinel_rules.specs.Plans.{Plan}
-use Rattle.sentinel_rules.specs.States.{Core, is_master_down, is_tilted, is_failing_over, is_wished}
+use Rattle.sentinel_rules.specs.States.{Core, is_master_down, is_tilted, is_in_progress}
 use Rattle.sentinel_rules.specs.Parts.{output_of}
 use Rattle.sentinel_rules.specs.Answers.{commanded, asked_of, asked_at, master_with_card, about, named, Answered, unchanged, reply, has_heir, wished, asked_to_switch}
 use Rattle.sentinel_rules.specs.Takes.{next_at, part_of, cleared}
@@ -83,7 +83,7 @@ switch_within plan m now false false false core = tt
 asked_switch_within : (plan : Plan) (now : ℕ) (m : Option ℕ) (core : Core) → IsWithinBody (asked_to_switch plan now m core).body
 asked_switch_within plan now None core = tt
 asked_switch_within plan now (Some m) core =
-    switch_within plan m now (is_failing_over core m || is_wished core m now) (is_tilted core) (has_heir plan core m now) core
+    switch_within plan m now (is_in_progress core m now) (is_tilted core) (has_heir plan core m now) core
 
 either_within : (profile : Profile) (strict redis : Answered) → IsWithinBody strict.body → IsWithinBody redis.body → IsWithinBody (by_profile profile strict redis).body
 either_within Strict strict redis f g = f

@@ -27,7 +27,7 @@ use Rattle.sentinel_rules.specs.Profiles.{by_profile}
 use Rattle.sentinel_rules.specs.declared.profiles.Profile.{Profile}
 use Rattle.sentinel_rules.specs.declared.profiles.Profile.TheVariants.{Strict, Redis}
 use Rattle.sentinel_rules.specs.Plans.{Plan}
-use Rattle.sentinel_rules.specs.States.{Core, is_master_down, is_tilted, is_failing_over, is_wished}
+use Rattle.sentinel_rules.specs.States.{Core, is_master_down, is_tilted, is_in_progress}
 use Rattle.sentinel_rules.specs.Parts.{output_of, shown_of}
 use Rattle.sentinel_rules.specs.Answers.{commanded, asked_of, asked_at, address_of, master_with_card, about, named, all_masters, Answered, unchanged, reply, has_heir, wished, asked_to_switch}
 use Rattle.sentinel_rules.specs.Takes.{next_at, part_of, cleared}
@@ -110,7 +110,7 @@ switch_shows plan m now false false false core = tt
 asked_switch_shows : (plan : Plan) (now : ℕ) (m : Option ℕ) (core : Core) → AnswersWithin (asked_to_switch plan now m core).body
 asked_switch_shows plan now None core = tt
 asked_switch_shows plan now (Some m) core =
-    switch_shows plan m now (is_failing_over core m || is_wished core m now) (is_tilted core) (has_heir plan core m now) core
+    switch_shows plan m now (is_in_progress core m now) (is_tilted core) (has_heir plan core m now) core
 
 either_shows : (profile : Profile) (strict redis : Answered) → AnswersWithin strict.body → AnswersWithin redis.body → AnswersWithin (by_profile profile strict redis).body
 either_shows Strict strict redis f g = f

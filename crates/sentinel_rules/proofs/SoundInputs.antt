@@ -20,7 +20,7 @@ use Rattle.sentinel_rules.specs.Profiles.{by_profile}
 use Rattle.sentinel_rules.specs.declared.profiles.Profile.{Profile}
 use Rattle.sentinel_rules.specs.declared.profiles.Profile.TheVariants.{Strict, Redis}
 use Rattle.sentinel_rules.specs.Plans.{Plan}
-use Rattle.sentinel_rules.specs.States.{Core, is_tilted, is_master_down, master_of, is_failing_over, is_wished}
+use Rattle.sentinel_rules.specs.States.{Core, is_tilted, is_master_down, master_of, is_in_progress}
 use Rattle.sentinel_rules.specs.Votes.{book_of, with_book, mark_for, requested}
 use Rattle.sentinel_rules.specs.Answers.{asked_at, asked_of, commanded, master_with_card, Answered, unchanged, reply, named, has_heir, wished, asked_to_switch}
 use Rattle.sentinel_rules.specs.Takes.{next_at, part_of, cleared}
@@ -60,13 +60,13 @@ switch_sound : (plan : Plan) (m now : ℕ) (busy tilted heir : Bool) (core : Cor
 switch_sound plan m now true tilted heir core s = s
 switch_sound plan m now false true heir core s = s
 switch_sound plan m now false false true core s =
-    sound_master plan core m (record (master_of core m) { wish = Some now }) s
-    (λ lt. master_alike plan core.kept m (master_of core m) (record (master_of core m) { wish = Some now }) (s.each m lt) refl refl refl refl)
+    sound_master plan core m (record (master_of core m) { wish = Some now; planned = None }) s
+    (λ lt. master_alike plan core.kept m (master_of core m) (record (master_of core m) { wish = Some now; planned = None }) (s.each m lt) refl refl refl refl)
 switch_sound plan m now false false false core s = s
 
 switched_sound : (plan : Plan) (now : ℕ) (m : Option ℕ) (core : Core) → IsSound plan core → IsSound plan (asked_to_switch plan now m core).core
 switched_sound plan now None core s = s
-switched_sound plan now (Some m) core s = switch_sound plan m now (is_failing_over core m || is_wished core m now) (is_tilted core) (has_heir plan core m now) core s
+switched_sound plan now (Some m) core s = switch_sound plan m now (is_in_progress core m now) (is_tilted core) (has_heir plan core m now) core s
 
 either_sound : (plan : Plan) (profile : Profile) (strict redis : Answered) → IsSound plan strict.core → IsSound plan redis.core → IsSound plan (by_profile profile strict redis).core
 either_sound plan Strict strict redis f g = f

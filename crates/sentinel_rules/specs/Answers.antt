@@ -27,7 +27,7 @@ use Rattle.port_answers.specs.InfoLines.{section_frame}
 use Rattle.port_answers.specs.Answers.{no_such_master, ok_line, in_progress, in_tilt, no_good_replica, id_frame, subscribed, command_fault}
 use Rattle.sentinel_rules.specs.declared.assumed.TheConstants.{ASSUMED_INFO}
 use Rattle.sentinel_rules.specs.Plans.{Plan, roster_of, me, group_size, master_count, settings_at, nodes_of, addr_at}
-use Rattle.sentinel_rules.specs.States.{Core, master_of, node_of, peer_of, with_master, card_place, is_failing_over, is_tilted, is_wished, is_node_down, is_master_down, is_peer_down, is_odown_at, failover_of, node_down_since, peer_down_since}
+use Rattle.sentinel_rules.specs.States.{Core, master_of, node_of, peer_of, with_master, card_place, is_failing_over, is_in_progress, is_tilted, is_node_down, is_master_down, is_peer_down, is_odown_at, failover_of, node_down_since, peer_down_since}
 use Rattle.sentinel_rules.specs.Parts.{shown_of}
 use Rattle.sentinel_rules.specs.Profiles.{by_profile, down_for}
 use Rattle.sentinel_rules.specs.Rows.{contact_row, said_row, link_row, stage_of, heard_leader, heard_epoch, is_left_out, places_told, master_frame_by, masters_frame_by, replicas_frame_by, sentinels_frame_by, quorum_reached_by, no_quorum_by}
@@ -209,12 +209,12 @@ has_heir plan core m now = list_any may_take_over (candidates_of plan core m now
 
 -- the campaign is to begin at the next tick
 abbrev pub wished : (m now : ℕ) → Core → Core
-wished m now core = with_master core m (record (master_of core m) { wish = Some now })
+wished m now core = with_master core m (record (master_of core m) { wish = Some now; planned = None })
 
--- one at a time, and none that could come to nothing from the outset
+-- one at a time, another one after ten seconds, and none that could come to nothing from the outset
 abbrev pub switch_at : Plan → (m now : ℕ) → Core → Answered
 switch_at plan m now core =
-    if is_failing_over core m || is_wished core m now then unchanged core (reply core [] in_progress)
+    if is_in_progress core m now then unchanged core (reply core [] in_progress)
     else (if is_tilted core then unchanged core (reply core [] in_tilt)
     else (if has_heir plan core m now then record { core = wished m now core; body = reply core [] ok_line }
     else unchanged core (reply core [] no_good_replica)))

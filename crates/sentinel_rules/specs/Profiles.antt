@@ -1,12 +1,11 @@
 -- Where the profiles differ, rule by rule: the strict rule, and Redis's with its reason. None of them is about who is voted for, what elects, or which
 -- configuration is taken; they say from when on a campaign may begin, for how long a failover waits, and which replicas count.
 use Rattle.std.specs.Prelude.{ℕ, zero, suc, ◌+◌, ◌*◌, ◌/◌, ◌%◌, max, min, Bool, true, false, not, ◌&&◌, ◌||◌, nat_lt, nat_le, ◌==◌, is_some, unwrap_or, Option, Some, None, length, position, if◌then◌else◌}
-use Rattle.ballot_law.specs.declared.addresses.Addr.{Addr}
 use Rattle.ballot_law.specs.declared.addresses.RunId.{RunId}
 use Rattle.ballot_law.specs.declared.replies.Info.{Info}
 use Rattle.ballot_law.specs.Ballots.{kept_of}
 use Rattle.ballot_law.specs.Clocks.{age, clock}
-use Rattle.ballot_law.specs.Orders.{same_addr, same_id}
+use Rattle.ballot_law.specs.Orders.{same_id}
 use Rattle.ballot_law.specs.Watches.{down_since_of}
 use Rattle.failover_states.specs.declared.periods.TheConstants.{ELECTION_MS, SPREAD_MS}
 use Rattle.failover_states.specs.declared.states.FailoverState.{FailoverState}
@@ -16,11 +15,11 @@ use Rattle.failover_states.specs.declared.states.Row.TheVariants.{ElectionTimeou
 use Rattle.failover_states.specs.Calls.{choice_of}
 use Rattle.failover_states.specs.Failovers.{Failover}
 use Rattle.sentinel_rules.specs.declared.assumed.TheConstants.{ASSUMED_INFO}
-use Rattle.sentinel_rules.specs.declared.periods.TheConstants.{HANDED_MS, HOLD_MS, LINK_MAX_S, QUIET_MS, SWITCHED_MS}
+use Rattle.sentinel_rules.specs.declared.periods.TheConstants.{HANDED_MS, LINK_MAX_S, LOOKED_MS, QUIET_MS, SWITCHED_MS}
 use Rattle.sentinel_rules.specs.declared.profiles.Profile.{Profile}
 use Rattle.sentinel_rules.specs.declared.profiles.Profile.TheVariants.{Strict, Redis}
 use Rattle.sentinel_rules.specs.Plans.{Plan, roster_of, group_size, settings_at, nodes_of}
-use Rattle.sentinel_rules.specs.States.{Core, NodeState, master_of, node_of, peer_of, failover_of, with_failover, card_place, is_idle, is_handed, says_master, says_replica, node_down_since, is_node_down, is_master_down}
+use Rattle.sentinel_rules.specs.States.{Core, NodeState, master_of, node_of, peer_of, failover_of, with_failover, card_place, is_held, is_idle, is_handed, says_master, says_replica, place_followed, node_down_since, is_node_down, is_master_down}
 
 abbrev pub is_redis : Profile → Bool
 is_redis Strict = false
@@ -62,11 +61,6 @@ marked_at plan core m now =
 -- a failover counts as started at this moment
 abbrev pub marked : (moment : ℕ) → Failover → Failover
 marked moment f = record f { last_start = Some (clock moment) }
-
--- the moment is yet to come, and no later than any that is kept: a later one is of a clock that was set back
-abbrev pub is_held : Option ℕ → (now : ℕ) → Bool
-is_held None now = false
-is_held (Some from) now = nat_lt now from && nat_le (age now from) HOLD_MS
 
 abbrev pub is_down_for : Option ℕ → (pause now : ℕ) → Bool
 is_down_for None pause now = false
@@ -151,11 +145,6 @@ with_pause plan m now row core = rested plan m now (rest_of plan.profile row (el
 
 -- A switch that was made at the nodes
 
--- the place of the node at an address
-abbrev pub place_followed : Plan → (m : ℕ) → Option Addr → Option ℕ
-place_followed plan m None = None
-place_followed plan m (Some addr) = position (same_addr addr) (nodes_of plan m)
-
 -- the place, where it passes
 abbrev pub passing : Option ℕ → (ℕ → Bool) → Option ℕ
 passing None passes = None
@@ -204,10 +193,23 @@ is_electing (WaitPromotion epoch choice former) = false
 is_electing (ReconfReplicas epoch choice former) = false
 is_electing (UpdateConfig epoch choice) = false
 
--- The other Sentinels are asked while the master is down. In the other profile they are asked for their votes of a master that is up, too, since a campaign may
--- follow a switch
+-- The other Sentinels are asked while the master is down. In the other profile they are asked for their votes of a master that is up, too: a campaign that awaits
+-- votes then is of a switch, or has ended
 abbrev pub is_asking : Plan → Core → (m now : ℕ) → Bool
 is_asking plan core m now = is_master_down plan core m now || by_profile plan.profile false (is_electing (failover_of core m).state)
+
+-- whether a switch is looked for: the master was told to hand over, or this Sentinel voted for another one a moment ago, though the master was well. The last start
+-- is kept as an election and a pause after the vote
+abbrev pub is_soon_after_vote : Option ℕ → (election now : ℕ) → Bool
+is_soon_after_vote None election now = false
+is_soon_after_vote (Some from) election now = is_held (Some from) now && nat_lt election (age now from + LOOKED_MS)
+
+-- By the strict rule, as in Redis, the master is asked for its INFO each ten seconds. In the other profile it is asked as often as the replica to which it hands
+-- over, so that each Sentinel sees who took over, though the leader dies
+abbrev pub is_looking : Plan → Core → (m now : ℕ) → Bool
+is_looking plan core m now =
+    by_profile plan.profile false
+    (is_handed core m || (not (master_of core m).odown && is_soon_after_vote (failover_of core m).last_start (election_ms plan m) now))
 
 -- Which replicas count
 
@@ -239,9 +241,10 @@ down_for (Some since) now = age since now
 
 -- For how long the master has been down, as a replica's link is judged by it. By the strict rule, as in Redis, as long as this Sentinel has found it down. Where
 -- the master hasn't replied once since this Sentinel's start, nobody knows since when it is down: the replicas do, by the link that was lost last, so in the other
--- profile it is at least as long as that
+-- profile it is at least as long as that; and at least as long as it has said that it is a replica, since when nobody has followed it
 abbrev pub master_down_ms : Plan → Core → (m now : ℕ) → ℕ
 master_down_ms plan core m now =
     let place = card_place plan core m in
     let found = down_for (node_down_since plan core m now place) now in
-    by_profile plan.profile found (if is_some (node_of core m place).last_ping then found else max found (least_link_ms plan core m))
+    by_profile plan.profile found
+    (max (down_for (node_of core m place).watch.replica_since now) (if is_some (node_of core m place).last_ping then found else max found (least_link_ms plan core m)))

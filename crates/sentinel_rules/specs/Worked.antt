@@ -549,8 +549,8 @@ pub record ASwitchForgetsTheStart : Type 0 where
   pub strict : (failover_of (core_of failover_plan failover_inputs) 0).last_start ≡ Some 7000
   pub redis : (failover_of (core_of (of_redis failover_plan) failover_inputs) 0).last_start ≡ None
 
--- the candidate that was voted for at 6,050 never replied, and is down: a Sentinel of Redis's profile begins at the next tick, for an election that may last for
--- one second
+-- the candidate that was voted for at 6,050 never replied, and is down: a Sentinel of Redis's profile begins at the next tick but one, as at the next one all are
+-- down at once, which may be its own pause
 abbrev pub ALostCandidateHoldsNobodyBack : Type 0
 ALostCandidateHoldsNobodyBack =
     rare_from
@@ -558,9 +558,9 @@ ALostCandidateHoldsNobodyBack =
     (core_of (of_redis short_timeout_plan) (ticks_from 1000 5 ++ (6000, Tick 0 1950) ∷ []))
     (ask_at 6050 6379 1 (Some id_b) ∷ answer_at 6100 1 None 0 ∷ ticks_from 7000 3)
     ≡ (6050, answer (Answer 0 (local 6379) true (Some id_b) 1))
-    ∷ (7000, asks 2 (Some id_a))
+    ∷ (7000, asks 1 None)
     ∷ (8000, asks 2 (Some id_a))
-    ∷ (9000, asks 2 None)
+    ∷ (9000, asks 2 (Some id_a))
     ∷ []
 
 -- Switches that a client asks for

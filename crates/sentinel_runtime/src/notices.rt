@@ -66,6 +66,20 @@ fn note_stay<J: Which, R: Log + Wait>(to: &Announcing<'_, '_, J, R>, master: Nam
     );
 }
 
+/// Notes that a failover ended since the master is up again.
+fn note_back<J: Which, R: Log + Wait>(to: &Announcing<'_, '_, J, R>, master: NamedMaster<'_>) {
+    warn!(to.log(); target: "group_sentinels::notes",
+        "-failover-abort-master-is-back master {master}: it is up again, and stays the master"
+    );
+}
+
+/// Notes that a switch ended which was asked for too long ago.
+fn note_late<J: Which, R: Log + Wait>(to: &Announcing<'_, '_, J, R>, master: NamedMaster<'_>) {
+    warn!(to.log(); target: "group_sentinels::notes",
+        "-switch-ended master {master}: it was asked for more than 5 s ago, and the master wasn't told to hand over"
+    );
+}
+
 /// Tells what happened to a master. That it has another address is told by the output that says so.
 fn tell_master<J: Which, R: Log + Wait>(
     to: &Announcing<'_, '_, J, R>,
@@ -83,6 +97,8 @@ fn tell_master<J: Which, R: Log + Wait>(
             to.tell_master(Channel::SelectReplica, master);
         }
         MasterNotice::NotElected => to.tell_master(Channel::AbortNotElected, master),
+        MasterNotice::Back => note_back(to, master),
+        MasterNotice::Late => note_late(to, master),
         MasterNotice::NoReplica => to.tell_master(Channel::AbortNoGoodReplica, master),
         MasterNotice::NotPromoted => to.tell_master(Channel::AbortReplicaTimeout, master),
         MasterNotice::Ended => to.tell_master(Channel::FailoverEnd, master),

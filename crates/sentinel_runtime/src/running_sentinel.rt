@@ -147,7 +147,7 @@ impl<J: Which> ThreadSeat<J> {
         self.sight.take_nearness()
     }
 
-    /// Whether a switch was under way at the end of the last turn that a client asked for.
+    /// Whether a failover of its own was on its way to a new master at the end of the last turn.
     pub fn is_switching(&self) -> bool {
         self.sight.is_switching()
     }

@@ -10,6 +10,7 @@
 
 mod cards;
 mod cores;
+mod endings;
 mod failovers;
 mod masters;
 mod nodes;

@@ -14,6 +14,7 @@ mod sending;
 
 pub(crate) use contacts::since_after;
 pub use frame_list::FrameList;
+pub(crate) use node::earlier_of;
 pub use node::{Node, greet_soon, move_all};
 pub use peers::Peer;
 pub use plans::Plan;

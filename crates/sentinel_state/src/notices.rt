@@ -37,6 +37,10 @@ pub enum MasterNotice {
     Elected,
     /// A failover ended, since the Sentinel wasn't elected.
     NotElected,
+    /// A failover ended before a replica was told, since the master is up again.
+    Back,
+    /// A switch that was asked for ended before the master was told, since that was too long ago.
+    Late,
     /// A failover ended, since no replica can be promoted.
     NoReplica,
     /// A failover ended, since its choice didn't become a master in time.

@@ -5,14 +5,14 @@ ghost use Rattle.ballot_law.specs.declared.rosters.TheConstants.{SENTINELS_MAX};
 ghost use Rattle.ballot_law.specs.Clocks.{clock};
 ghost use Rattle.failover_states.specs.declared.periods.TheConstants.{ELECTION_MS};
 ghost use Rattle.failover_states.specs.Calls.{choice_of};
-ghost use Rattle.sentinel_rules.specs.Profiles.{election_ms, turn_place, pause_of, is_held, is_down_for, is_peer_lost, is_leader_lost, may_begin, is_quiet, is_gone, is_choice_lost, handed_ms, patience, rest_after, rest_of, rested_at, with_pause};
-ghost use Rattle.sentinel_rules.specs.States.{failover_of, node_of};
+ghost use Rattle.sentinel_rules.specs.Profiles.{election_ms, turn_place, pause_of, is_down_for, is_peer_lost, is_leader_lost, may_begin, is_soon_after_vote, is_looking, is_quiet, is_gone, is_choice_lost, handed_ms, patience, rest_after, rest_of, rested_at, with_pause};
+ghost use Rattle.sentinel_rules.specs.States.{failover_of, is_held, node_of};
 
 use crate::cores::{Core, is_idle};
 use crate::nodes::Plan;
 use ballot_law::clock_of;
 use failover_states::{ELECTION_MS, Row, SPREAD_MS};
-use sentinel_rules::{HANDED_MS, HOLD_MS, Profile, QUIET_MS};
+use sentinel_rules::{HANDED_MS, HOLD_MS, LOOKED_MS, Profile, QUIET_MS};
 
 /// How long an election for a master may last.
 pub(crate) fn election_ms(plan: &Plan, m: u16) -> u64
@@ -23,7 +23,7 @@ pub(crate) fn election_ms(plan: &Plan, m: u16) -> u64
 }
 
 /// Whether the moment from which the own campaign may begin is yet to come.
-fn is_held(from: Option<u64>, now: u64) -> bool
+pub(crate) fn is_held(from: Option<u64>, now: u64) -> bool
     ensures { result ≡ is_held from now }
 {
     match from {
@@ -77,6 +77,19 @@ fn rest_of(profile: Profile, row: Option<Row>, election: u64) -> Option<u64>
     }
 }
 
+/// Whether a vote for another Sentinel was given a moment ago, by what is kept as the last start then.
+fn is_soon_after_vote(from: Option<u64>, election: u64, now: u64) -> bool
+    ensures { result ≡ is_soon_after_vote from election now }
+{
+    match from {
+        Some(at) => {
+            let left = at.saturating_sub(now);
+            now < at && left <= HOLD_MS && election < left + LOOKED_MS
+        }
+        None => false,
+    }
+}
+
 impl Core {
     /// Which turn this Sentinel has among those that begin anew.
     fn turn_place(&self, plan: &Plan) -> u64
@@ -97,7 +110,7 @@ impl Core {
     }
 
     /// What is kept as the last start of a master's failover.
-    fn last_start(&self, m: u16) -> Option<u64>
+    pub(crate) fn last_start(&self, m: u16) -> Option<u64>
         ensures { result ≡ (failover_of self.now m).last_start }
     {
         match self.masters.get(m as usize) {
@@ -140,6 +153,22 @@ impl Core {
         }
     }
 
+    /// Whether a switch of a master is looked for: it was told to hand over, or another Sentinel asked for a vote a moment
+    /// ago though it was well.
+    pub(crate) fn is_looking(&self, plan: &Plan, m: u16, now: u64) -> bool
+        ensures { result ≡ is_looking plan.now self.now m (clock now) }
+    {
+        match plan.profile() {
+            Profile::Strict => false,
+            Profile::Redis => {
+                let election = election_ms(plan, m);
+                self.is_handed(m)
+                    || !self.was_odown(m)
+                        && is_soon_after_vote(self.last_start(m), election, clock_of(now))
+            }
+        }
+    }
+
     /// Whether the connection to a data node was lost, and nothing has been heard of the node for a while.
     fn is_gone(&self, m: u16, now: u64, k: usize) -> bool
         ensures { result ≡ is_gone (clock now) (node_of self.now m k) }
@@ -149,7 +178,7 @@ impl Core {
     }
 
     /// Whether the replica that a master's failover chose is down, or gone.
-    fn is_choice_lost(&self, plan: &Plan, m: u16, now: u64) -> bool
+    pub(crate) fn is_choice_lost(&self, plan: &Plan, m: u16, now: u64) -> bool
         ensures { result ≡ is_choice_lost plan.now self.now m (clock now) (choice_of (failover_of self.now m).state) }
     {
         match self.choice(m) {
@@ -193,7 +222,7 @@ impl Core {
     }
 
     /// The moment from which the own campaign may begin, where it is put off for so long.
-    fn rested_at(&self, plan: &Plan, m: u16, now: u64, rest: u64) -> u64
+    pub(crate) fn rested_at(&self, plan: &Plan, m: u16, now: u64, rest: u64) -> u64
         requires { rest ≤ ELECTION_MS }
         ensures { result ≡ rested_at plan.now self.now m (clock now) rest }
     {

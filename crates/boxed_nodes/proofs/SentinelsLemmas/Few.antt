@@ -21,7 +21,7 @@ use Rattle.sentinel_rules.specs.Answers.{commanded, asked_of, master_with_card, 
 use Rattle.sentinel_rules.specs.Facts.{IsSoundPlan}
 use Rattle.sentinel_rules.specs.Parts.{output_of, shown_of}
 use Rattle.sentinel_rules.specs.Plans.{Plan, master_count}
-use Rattle.sentinel_rules.specs.States.{Core, is_failing_over, is_tilted, is_wished}
+use Rattle.sentinel_rules.specs.States.{Core, is_tilted, is_in_progress}
 use Rattle.sentinel_rules.specs.Takes.{next, next_at, part_of, cleared}
 use Rattle.sentinel_rules.proofs.Choices.{length-numbers_from}
 use Rattle.sentinel_rules.specs.Profiles.{by_profile}
@@ -50,7 +50,7 @@ switch_few m now false false false core going tilt ok none = omega arith
 asked_switch_few : (plan : Plan) (now : ℕ) (m : Option ℕ) (core : Core) → IsFewIn (asked_to_switch plan now m core).body
 asked_switch_few plan now None core = omega arith
 asked_switch_few plan now (Some m) core =
-    switch_few m now (is_failing_over core m || is_wished core m now) (is_tilted core) (has_heir plan core m now) core _ _ _ _
+    switch_few m now (is_in_progress core m now) (is_tilted core) (has_heir plan core m now) core _ _ _ _
 
 either_few : (profile : Profile) (core : Core) (text : List ℕ) (redis : Answered) → IsFewIn redis.body →
     IsFewIn (by_profile profile (unchanged core (PortReply [] text)) redis).body

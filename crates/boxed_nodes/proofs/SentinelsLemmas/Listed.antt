@@ -22,7 +22,7 @@ use Rattle.sentinel_rules.proofs.NamedFrames.{hellos_name_masters}
 use Rattle.sentinel_rules.specs.Answers.{commanded, asked_of, master_with_card, named, about, address_of, numbers_from, Answered, unchanged, has_heir, wished, asked_to_switch}
 use Rattle.sentinel_rules.specs.Parts.{output_of, shown_of, hello_of_master}
 use Rattle.sentinel_rules.specs.Plans.{Plan, roster_of, master_count}
-use Rattle.sentinel_rules.specs.States.{Core, is_failing_over, is_tilted, is_wished}
+use Rattle.sentinel_rules.specs.States.{Core, is_tilted, is_in_progress}
 use Rattle.sentinel_rules.specs.Takes.{next, next_at, part_of, cleared}
 use Rattle.sentinel_rules.specs.Profiles.{by_profile}
 use Rattle.sentinel_rules.specs.declared.profiles.Profile.{Profile}
@@ -75,7 +75,7 @@ switch_listed roster m now false false false core going tilt ok none = tt
 asked_switch_listed : (plan : Plan) (now : ℕ) (m : Option ℕ) (core : Core) → IsListedIn (roster_of plan) (asked_to_switch plan now m core).body
 asked_switch_listed plan now None core = tt
 asked_switch_listed plan now (Some m) core =
-    switch_listed (roster_of plan) m now (is_failing_over core m || is_wished core m now) (is_tilted core) (has_heir plan core m now) core _ _ _ _
+    switch_listed (roster_of plan) m now (is_in_progress core m now) (is_tilted core) (has_heir plan core m now) core _ _ _ _
 
 either_listed : (roster : Roster) (profile : Profile) (core : Core) (text : List ℕ) (redis : Answered) → IsListedIn roster redis.body →
     IsListedIn roster (by_profile profile (unchanged core (PortReply [] text)) redis).body

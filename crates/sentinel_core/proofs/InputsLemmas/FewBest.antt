@@ -7,10 +7,10 @@ use Rattle.replica_choice.specs.declared.candidates.Candidate.{Candidate}
 use Rattle.replica_choice.specs.declared.candidates.Limits.{Limits}
 use Rattle.replica_choice.specs.Choices.{candidate_at, is_eligible, is_better, with_place, choice_below, choice_of}
 use Rattle.sentinel_rules.specs.Plans.{Plan, nodes_of, addr_at}
-use Rattle.sentinel_rules.specs.States.{Core, node_of, card_place}
+use Rattle.sentinel_rules.specs.States.{Core, node_of, card_place, place_followed}
 use Rattle.sentinel_rules.specs.Ticks.{candidate_of, candidates_of, limits_of, best_of, best_place}
 use Rattle.sentinel_rules.proofs.Choices.{length-at_places}
-use Rattle.sentinel_rules.specs.Profiles.{by_profile, place_followed, passing, is_taking_over, switched_to, is_given_away, first_of}
+use Rattle.sentinel_rules.specs.Profiles.{by_profile, passing, is_taking_over, switched_to, is_given_away, first_of}
 use Rattle.sentinel_rules.specs.declared.profiles.Profile.{Profile}
 use Rattle.sentinel_rules.specs.declared.profiles.Profile.TheVariants.{Strict, Redis}
 use Rattle.sentinel_rules.specs.declared.assumed.TheConstants.{ASSUMED_INFO}

@@ -24,7 +24,7 @@ use Rattle.sentinel_rules.proofs.ShownEpochs.{voted_within}
 use Rattle.sentinel_rules.specs.Answers.{commanded, asked_of, master_with_card, named, about, reply, master_row, replica_rows, sentinel_rows, quorum_frame, Answered, unchanged, has_heir, wished, asked_to_switch}
 use Rattle.sentinel_rules.specs.Plans.{Plan}
 use Rattle.sentinel_rules.specs.Rows.{master_frame_by, replicas_frame_by, sentinels_frame_by}
-use Rattle.sentinel_rules.specs.States.{Core, is_failing_over, is_tilted, is_wished}
+use Rattle.sentinel_rules.specs.States.{Core, is_tilted, is_in_progress}
 use Rattle.sentinel_rules.specs.Takes.{next, cleared}
 use Rattle.node_texts.specs.Messages.MessageTexts.{IsWritable}
 use Rattle.sentinel_rules.specs.Profiles.{by_profile}
@@ -68,7 +68,7 @@ switch_writable plan m now false false false core = tt
 asked_switch_writable : (plan : Plan) (now : ℕ) (m : Option ℕ) (core : Core) → IsWritable (asked_to_switch plan now m core).body
 asked_switch_writable plan now None core = tt
 asked_switch_writable plan now (Some m) core =
-    switch_writable plan m now (is_failing_over core m || is_wished core m now) (is_tilted core) (has_heir plan core m now) core
+    switch_writable plan m now (is_in_progress core m now) (is_tilted core) (has_heir plan core m now) core
 
 either_writable : (profile : Profile) (strict redis : Answered) → IsWritable strict.body → IsWritable redis.body → IsWritable (by_profile profile strict redis).body
 either_writable Strict strict redis f g = f

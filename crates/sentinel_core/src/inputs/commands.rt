@@ -363,7 +363,7 @@ fn answer_switch_at(
     ensures core { core.new ≡ (switch_at plan.now m (clock now) core.old).core }
     ensures body { result ≡ (switch_at plan.now m (clock now) core.old).body }
 {
-    if core.is_failing_over(m) || core.is_wished(m, now) {
+    if core.is_in_progress(m, now) {
         return answer_in_progress(text, shown);
     }
     if core.is_tilted() {

@@ -1,13 +1,15 @@
 //! What a turn of a master's failover looks at: the best replica, which nodes are down, and the votes of its campaign.
 
-ghost use Rattle.std.specs.Prelude.{◌≡◌, ◌≤◌, ◌<◌, [], None, IfSome, if◌then◌else◌, is_some, length, take};
+ghost use Rattle.std.specs.Prelude.{◌≡◌, ◌≤◌, ◌<◌, [], None, IfSome, if◌then◌else◌, is_some, false, length, take};
+ghost use Rattle.std.specs.List.{list_all};
 ghost use Rattle.ballot_law.specs.declared.rosters.TheConstants.{NODES_MAX};
 ghost use Rattle.ballot_law.specs.Clocks.{clock};
-ghost use Rattle.sentinel_rules.specs.Plans.{me, nodes_of};
+ghost use Rattle.ballot_law.specs.Watches.{down_since_of};
+ghost use Rattle.sentinel_rules.specs.Plans.{me, nodes_of, settings_at};
 ghost use Rattle.sentinel_rules.specs.States.{card_place, is_node_down, node_of};
 ghost use Rattle.replica_choice.specs.Choices.{choice_of};
 ghost use Rattle.sentinel_rules.specs.Answers.{may_take_over, has_heir};
-ghost use Rattle.sentinel_rules.specs.Ticks.{candidate_of, candidates_of, at_places, limits_of, best_place, best_of, pick_of, count_of};
+ghost use Rattle.sentinel_rules.specs.Ticks.{candidate_of, candidates_of, at_places, limits_of, is_at, is_all_down, is_own_pause, best_place, best_of, pick_of, count_of};
 ghost use Rattle.sentinel_rules.specs.Profiles.{link_at, lesser, least_link_ms, down_for, master_down_ms};
 ghost use Rattle.sentinel_core.specs.Inputs.Rows.{looks_at_votes, looks_at_best, looks_at_nodes};
 
@@ -198,10 +200,11 @@ fn master_down_ms(state: &State, m: u16, now: u64, card_at: usize) -> u64
     match state.plan.profile() {
         Profile::Strict => found,
         Profile::Redis => {
+            let unled = down_for(state.core.replica_since(m, card_at), clock_of(now));
             if has_replied(state, m, card_at) {
-                return found;
+                return unled.max(found);
             }
-            found.max(least_link_ms(state, m, card_at))
+            unled.max(found.max(least_link_ms(state, m, card_at)))
         }
     }
 }
@@ -264,6 +267,45 @@ fn down_places(state: &State, m: u16, now: u64) -> DownPlaces
         down[k] = state.core.is_node_down(&state.plan, m, now, card_at, k);
     }
     DownPlaces { down, count }
+}
+
+/// Whether it has been since this reading.
+fn is_at(since: Option<u64>, at: u64) -> bool
+    ensures { result ≡ is_at since at }
+{
+    match since {
+        Some(since) => at == since,
+        None => false,
+    }
+}
+
+/// Whether each Sentinel is down, by the first master's `down-after-milliseconds`.
+fn are_peers_down(state: &State, now: u64) -> bool
+    ensures { result ≡ list_all (λ peer. is_some (down_since_of peer.watch (clock now) (settings_at state.now.plan 0).after_ms false)) state.now.core.peers }
+{
+    let after_ms = state.plan.settings(0).after_ms;
+    state.core.peers().iter().all(|peer| peer.watch.sdown_since(now, after_ms, false).is_some())
+}
+
+/// Whether all nodes of a master are down, and all other Sentinels.
+fn is_all_down(state: &State, m: u16, now: u64) -> bool
+    ensures { result ≡ is_all_down state.now.plan state.now.core m (clock now) }
+{
+    let nodes = down_places(state, m, now);
+    nodes.as_slice().iter().all(|down| *down) && are_peers_down(state, now)
+}
+
+/// Whether all are down at the reading at which the master is found objectively down, by the profile: it may be this
+/// Sentinel that stood still.
+pub(crate) fn is_own_pause(state: &State, m: u16, now: u64) -> bool
+    ensures { result ≡ is_own_pause state.now.plan state.now.core m (clock now) }
+{
+    match state.plan.profile() {
+        Profile::Strict => false,
+        Profile::Redis => {
+            is_at(state.core.odown_since(m), clock_of(now)) && is_all_down(state, m, now)
+        }
+    }
 }
 
 /// The pick of the votes heard, where the rows of this state look at it.

@@ -86,6 +86,8 @@ pub struct Sending {
     pub is_busy: bool,
     /// The place of the replica to which the master was told to hand over.
     pub heir: Option<u16>,
+    /// Whether the node of the configuration is looked at as often as that replica.
+    pub looks: bool,
 }
 
 impl Model for Sending {
@@ -99,6 +101,7 @@ impl Model for Sending {
       card_place = s.card_place;
       is_busy = s.is_busy;
       heir = s.heir;
+      looks = s.looks;
     } };
 
     ghost inverse = { λ s. record {
@@ -107,6 +110,7 @@ impl Model for Sending {
       card_place = s.card_place;
       is_busy = s.is_busy;
       heir = s.heir;
+      looks = s.looks;
     } };
 }
 
@@ -149,15 +153,18 @@ impl Node {
     }
 
     /// Whether INFO is due of the node at a place: each 10 seconds, each second of a replica whose master is down or
-    /// fails over, or whose link was down, and ten times a second of the one to which the master hands over.
+    /// fails over, or whose link was down, and ten times a second of the one to which the master hands over, and of a
+    /// master that may do so.
     fn is_info_due(&self, sending: Sending, k: usize) -> bool
         ensures { result ≡ is_info_due sending k self.now }
     {
-        let is_soon = k != sending.card_place && (sending.is_busy || had_link_down(self.info));
+        let is_card = k == sending.card_place;
+        let is_looked_at = is_at(sending.heir, k) || sending.looks && is_card;
+        let is_soon = !is_card && (sending.is_busy || had_link_down(self.info));
         is_due(
             self.info_sent,
             sending.now,
-            info_period(is_at(sending.heir, k), is_soon),
+            info_period(is_looked_at, is_soon),
         )
     }
 
