@@ -1,7 +1,8 @@
 -- The connections of a Sentinel are those of its roster.
-use Rattle.std.proofs.Common.{◌≡◌, ◌∙◌, ◌⊎◌, ⊎_elim, ℕ, ◌+◌, ◌<◌, ◌≤◌, List, [], ◌∷◌, ◌++◌, length, Option, Some, None, ap, arith, sym, subst}
+use Rattle.std.proofs.Common.{◌≡◌, ◌∙◌, ◌⊎◌, ⊎_elim, ℕ, zero, suc, ◌+◌, ◌<◌, ◌≤◌, take, get_or, List, [], ◌∷◌, ◌++◌, length, Option, Some, None, ap, arith, sym, subst}
 use Rattle.std.specs.List.{AllByRecursion}
-use Rattle.std.proofs.lemmas.List.{append-nil, length-append, length-map, map-append}
+use Rattle.std.proofs.lemmas.List.{length-append, length-map, map-append}
+use Rattle.std.proofs.Math.Seq.{take-suc}
 use mathlib.Core.Logic.{∥∥₁_elim, ∥∥₁_map, ∥∥₁_prop}
 use Rattle.ballot_law.specs.Rosters.{Roster}
 use Rattle.links.specs.declared.target.Target.{Target}
@@ -31,9 +32,25 @@ planned_more {A} to roster own place plans more one is so_far at =
           (let same = length-map plans (target_at to) in let before = so_far.0 in from_more roster own 0 place (targets_of to plans) (target_at to one) (omega (arith, same, before)) so_far.1 at),
     )
 
--- where none is left, those that were made are all
-pub all_made : {A : Type 0} (to : A → Target) (all made : List (Option Target)) (left : List (Option A)) → left ≡ [] → all ≡ made ++ targets_of to left → made ≡ all
-all_made {A} to all made left none so_far = sym (so_far ∙ ap (λ (x : List (Option A)). made ++ targets_of to x) none ∙ append-nil made)
+-- one more connection of those that are planned
+pub made_more : {A B : Type 0} (to : A → Target) (from : B → Target) (plans : List (Option A)) (k : ℕ) (d : Option A) (made more : List (Option B)) (one : Option B)
+    → k < length plans → more ≡ made ++ one ∷ [] → targets_of from made ≡ targets_of to (take k plans) → target_at from one ≡ target_at to (get_or plans k d)
+    → targets_of from more ≡ targets_of to (take (k + 1) plans)
+made_more to from plans k d made more one lt is so_far same =
+    let plus : k + 1 ≡ suc k = omega arith in
+    let next : take (k + 1) plans ≡ take k plans ++ get_or plans k d ∷ [] = ap (λ (n : ℕ). take n plans) plus ∙ take-suc plans k d lt in
+    ap (targets_of from) is
+    ∙ (map-append (target_at from) made (one ∷ [])
+    ∙ (ap (λ (x : List (Option Target)). x ++ target_at from one ∷ []) so_far
+    ∙ (ap (λ (x : Option Target). targets_of to (take k plans) ++ x ∷ []) same
+    ∙ (sym (map-append (target_at to) (take k plans) (get_or plans k d ∷ [])) ∙ ap (targets_of to) (sym next)))))
+
+-- where all may be reached, so may the one at a place
+pub reached_here : {A : Type 0} (to : A → Target) (reaches : Target → Type 0) (plans : List (Option A)) (k : ℕ) (d : Option A) → k < length plans
+    → AllByRecursion (IsReached reaches) (targets_of to plans) → IsReached reaches (target_at to (get_or plans k d))
+reached_here to reaches [] k d lt all = absurd (omega (arith, lt))
+reached_here to reaches (plan ∷ plans) zero d lt all = all.0
+reached_here to reaches (plan ∷ plans) (suc k) d lt all = reached_here to reaches plans k d (omega (arith, lt)) all.1
 
 -- a connection may be to where each of them is
 reached_at : (roster : Roster) (own place : ℕ) (reaches : Target → Type 0) (one : Option Target)
