@@ -121,6 +121,11 @@ def ask_vote(port, epoch, candidate):
     return command("SENTINEL", "IS-MASTER-DOWN-BY-ADDR", "127.0.0.1", port, epoch, candidate)
 
 
+def foreign(path, ip):
+    """What `check` of one file says whose ip is none of this machine: on its only line of standard error."""
+    return f"warning: {path}:0: announce-ip {ip} is no address of this machine: see that it is the right file, unless addresses are translated (NAT)\n"
+
+
 def run_id(place):
     """The run id of the Sentinel at this place of a group: forty times a, b, c .."""
     return chr(ord("a") + place) * 40

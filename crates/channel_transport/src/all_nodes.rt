@@ -11,7 +11,7 @@ ghost use Rattle.channel_transport.specs.DataNodes.{AreNodesOf, ObeysAt, ShownBy
 ghost use Rattle.channel_transport.specs.declared.all_nodes.TheConstants.{NODE_COUNT_MAX};
 ghost use Rattle.channel_transport.specs.declared.node_orders.Action.TheVariants.{Take, Stop, Start};
 
-use crate::links::Links;
+use crate::channel_links::Links;
 use crate::node_orders::{Action, NodeOrder};
 use ballot_law::{Addr, Body, Event, Info, Input, KeptText, Message, NodeName, Output};
 use boxed_nodes::{DataNode, HowStored, Node};

@@ -7,17 +7,17 @@
 #![tactic(auto)]
 
 mod all_nodes;
+mod channel_links;
 mod delivery;
 mod dispatch;
-mod links;
 mod node_orders;
 mod shared_nodes;
 mod workers;
 
 pub use all_nodes::DataNodes;
+pub use channel_links::{ChannelOutlet, Links};
 pub use delivery::Delivery;
 pub use dispatch::{Dispatch, dispatch_of};
-pub use links::{ChannelOutlet, Links};
 pub use node_orders::{Action, GREATEST, NodeOrder, Takeable};
 pub use shared_nodes::SharedNodes;
 pub use workers::{run_link, run_timer};

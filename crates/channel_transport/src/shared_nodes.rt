@@ -4,7 +4,7 @@ ghost use Rattle.std.specs.Prelude.{IfSome};
 ghost use Rattle.node_texts.specs.Infos.{IsInfo};
 
 use crate::all_nodes::{DataNodes, ORDER_MS};
-use crate::links::Links;
+use crate::channel_links::Links;
 use crate::node_orders::NodeOrder;
 use ballot_law::{Addr, Info};
 use crossbeam_channel::{Receiver, RecvTimeoutError};

@@ -2,8 +2,8 @@
 
 ghost use Rattle.ballot_law.specs.declared.events.Event.{Event};
 
+use crate::channel_links::Links;
 use crate::delivery::Delivery;
-use crate::links::Links;
 use crossbeam_channel::{Receiver, RecvTimeoutError};
 use log::Log;
 use sentinel_conf::ConfStore;

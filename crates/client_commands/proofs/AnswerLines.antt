@@ -12,7 +12,7 @@ use Rattle.client_commands.specs.declared.subcommands.Sub.{Sub}
 use Rattle.client_commands.specs.declared.subcommands.Sub.TheVariants.{Help, PendingScripts, InfoCache, Config, SetOption, Monitor, Remove, Reset, Simulate, Debug}
 use Rattle.client_commands.specs.declared.hellos.Expects.{Expects}
 use Rattle.client_commands.specs.declared.hellos.Expects.TheVariants.{Start, User, Password, NewName}
-use Rattle.client_commands.specs.Refusals.{is_called, printed_byte, printed, unknown_subcommand, shown_words, unknown_command, no_option, wrong_password, no_password, no_auth, no_auth_yet, no_name, not_while_listening}
+use Rattle.client_commands.specs.Refusals.{is_called, printed_byte, printed, unknown_subcommand, shown_words, unknown_command, no_option, wrong_password, no_password, no_auth, no_auth_yet, not_while_listening}
 use Rattle.resp2.proofs.PlainLines.{is_plain_byte, plain, checked, joined}
 use Rattle.resp2.specs.Commands.{redis_command_of}
 use Rattle.client_commands.specs.Courtesies as table
@@ -25,7 +25,7 @@ use Rattle.client_commands.specs.Helps.{sentinel_help, client_help, command_help
 use Rattle.client_commands.specs.declared.protocols.Protocol.{Protocol}
 use Rattle.client_commands.specs.Protocols.{protocol_asked}
 use Rattle.client_commands.specs.Sections.{is_told}
-use Rattle.client_commands.specs.Courtesies.{ClientInfo, Answer, left, said, asks_info, silent, Looked, known, refused, verb_name, Greeted, greeted, expected, taken, is_user, is_password, is_some, admits, is_stranger, lacks_password, greeted_by, is_client_name, is_integer, after_first, first, or_else, hello_map, answered, asks_nothing, reply_to, courtesy, or_left}
+use Rattle.client_commands.specs.Courtesies.{ClientInfo, Answer, left, said, asks_info, silent, Looked, known, refused, verb_name, Greeted, greeted, expected, taken, is_user, is_password, is_some, admits, is_stranger, lacks_password, greeted_by, is_client_name, may_be_name, bad_name, is_integer, after_first, first, or_else, hello_map, answered, asks_nothing, reply_to, courtesy, or_left}
 use Rattle.client_commands.proofs.Silence.{asked_is, unasked_is}
 
 -- ---- lines
@@ -203,6 +203,12 @@ password_line = checked (codes "WRONGPASS invalid username-password pair or user
 name_line : HasLines (fault (codes "ERR Client names cannot contain spaces, newlines or special characters."))
 name_line = checked (codes "ERR Client names cannot contain spaces, newlines or special characters.") refl
 
+long_name_line : HasLines (fault (codes "ERR Client names cannot be longer than 256 bytes."))
+long_name_line = checked (codes "ERR Client names cannot be longer than 256 bytes.") refl
+
+bad_name_line : (word : List ℕ) → HasLines (bad_name word)
+bad_name_line word = one_of (is_client_name word) _ _ long_name_line name_line
+
 abbrev IsLineOrNone : Option Frame → Type 0
 IsLineOrNone None = Unit {0}
 IsLineOrNone (Some refusal) = HasLines refusal
@@ -221,10 +227,10 @@ given_lines : (test : Bool) (name : List ℕ) (admitted : Bool) (g : Greeted) �
 given_lines true name admitted g h = h
 given_lines false name admitted g h = password_line
 
-named_lines : (test : Bool) (name : List ℕ) (admitted : Bool) (g : Greeted) → IsLineOrNone g.refusal
-    → IsLineOrNone (elim test as (λ _. Greeted) [ true ↦ g | false ↦ record { name = name; admitted = admitted; refusal = Some no_name } ]).refusal
-named_lines true name admitted g h = h
-named_lines false name admitted g h = name_line
+named_lines : (test : Bool) (word name : List ℕ) (admitted : Bool) (g : Greeted) → IsLineOrNone g.refusal
+    → IsLineOrNone (elim test as (λ _. Greeted) [ true ↦ g | false ↦ record { name = name; admitted = admitted; refusal = Some (bad_name word) } ]).refusal
+named_lines true word name admitted g h = h
+named_lines false word name admitted g h = bad_name_line word
 
 greeted_lines : (wanted : Option (List ℕ)) (expects : Expects) (option name : List ℕ) (admitted : Bool) (words : List (List ℕ))
     → IsLineOrNone (greeted wanted expects option name admitted words).refusal
@@ -238,7 +244,7 @@ greeted_lines wanted User option name admitted (word ∷ words) = greeted_lines 
 greeted_lines wanted (Password familiar) option name admitted (word ∷ words) =
     given_lines (familiar && is_password wanted word) name admitted _ (greeted_lines wanted Start option name true words)
 greeted_lines wanted NewName option name admitted (word ∷ words) =
-    named_lines (is_client_name word) name admitted _ (greeted_lines wanted Start option word admitted words)
+    named_lines (may_be_name word) word name admitted _ (greeted_lines wanted Start option word admitted words)
 
 map_lines : (protocol : Protocol) (id : ℕ) → HasLines (hello_map protocol id)
 map_lines protocol id = (tt, (tt, (tt, (tt, (tt, (tt, (tt, (tt, (tt, (tt, (tt, (tt, tt))))))))))))
@@ -424,7 +430,7 @@ executed_lines : (roster : Roster) (asker : ClientInfo) (verb : Verb) (words : L
 executed_lines roster asker Ping words = tt
 executed_lines roster asker Hello words = hello_lines asker words
 executed_lines roster asker Auth words = auth_lines asker.password words
-executed_lines roster asker SetName words = one_of (is_client_name (first words)) _ _ ok_line name_line
+executed_lines roster asker SetName words = one_of (may_be_name (first words)) _ _ ok_line (bad_name_line (first words))
 executed_lines roster asker SetInfo words = ok_line
 executed_lines roster asker GetName words = get_name_lines asker.name
 executed_lines roster asker Id words = tt

@@ -12,12 +12,12 @@ use Rattle.client_commands.specs.declared.subcommands.Sub.{Sub}
 use Rattle.client_commands.specs.declared.hellos.Expects.{Expects}
 use Rattle.client_commands.specs.declared.hellos.Expects.TheVariants.{Start, User, Password, NewName}
 use Rattle.client_commands.specs.declared.courtesies.Courtesy.TheVariants.{Said}
-use Rattle.client_commands.specs.Refusals.{is_called, no_auth, no_option, wrong_password, no_name}
+use Rattle.client_commands.specs.Refusals.{is_called, no_auth, no_option, wrong_password}
 use Rattle.client_commands.specs.Subcommands.{all_subs, sub_among, takes_count}
 use Rattle.client_commands.specs.declared.protocols.Protocol.{Protocol}
 use Rattle.client_commands.specs.Protocols.{protocol_asked}
 use Rattle.client_commands.specs.Courtesies as table
-use Rattle.client_commands.specs.Courtesies.{ClientInfo, Answer, left, said, Looked, known, refused, Greeted, greeted, expected, is_user, is_password, is_client_name, is_some, after_first, lacks_password, is_stranger, is_for_strangers, admits, hello_admitted, admitted_by, or_admitted, answered, or_left, left_over, courtesy, asker_after, kind_of, words_of}
+use Rattle.client_commands.specs.Courtesies.{ClientInfo, Answer, left, said, Looked, known, refused, Greeted, greeted, expected, is_user, is_password, may_be_name, bad_name, is_some, after_first, lacks_password, is_stranger, is_for_strangers, admits, hello_admitted, admitted_by, or_admitted, answered, or_left, left_over, courtesy, asker_after, kind_of, words_of}
 
 -- ---- each value is answered
 
@@ -221,7 +221,7 @@ password_needs wanted false familiar word name admitted words g h e k = never ad
 
 name_needs : (wanted : Option (List ℕ)) (test : Bool) (word name : List ℕ) (admitted : Bool) (words : List (List ℕ)) (g : Greeted) → admitted ≡ false
     → Needs wanted words g
-    → Needs wanted (word ∷ words) (elim test as (λ _. Greeted) [ true ↦ g | false ↦ record { name = name; admitted = admitted; refusal = Some no_name } ])
+    → Needs wanted (word ∷ words) (elim test as (λ _. Greeted) [ true ↦ g | false ↦ record { name = name; admitted = admitted; refusal = Some (bad_name word) } ])
 name_needs wanted true word name admitted words g h needs k = further wanted word words (needs k)
 name_needs wanted false word name admitted words g h needs k = never admitted h k
 
@@ -238,7 +238,7 @@ greeted_needs wanted User option name admitted (word ∷ words) h =
 greeted_needs wanted (Password familiar) option name admitted (word ∷ words) h =
     password_needs wanted (familiar && is_password wanted word) familiar word name admitted words _ h refl
 greeted_needs wanted NewName option name admitted (word ∷ words) h =
-    name_needs wanted (is_client_name word) word name admitted words _ h (greeted_needs wanted Start option word admitted words h)
+    name_needs wanted (may_be_name word) word name admitted words _ h (greeted_needs wanted Start option word admitted words h)
 
 -- a truth of which one case is false
 else_case : (test a b : Bool) → a ≡ false → elim test as (λ _. Bool) [ true ↦ a | false ↦ b ] ≡ true → b ≡ true

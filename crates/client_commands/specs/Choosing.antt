@@ -1,5 +1,6 @@
 -- Which clients CLIENT LIST and CLIENT KILL name.
 use Rattle.std.specs.Prelude.{ℕ, Bool, true, false, not, ◌||◌, ◌&&◌, ◌==◌, List, [], ◌∷◌, ◌++◌, length, bytes_eq, codes, Option, None, Some}
+use Rattle.std.specs.Option.{is_some}
 use Rattle.ballot_law.specs.Words.{canonical_within}
 use Rattle.resp2.specs.Framing.Frame.{Frame, fault, spelling}
 use Rattle.client_commands.specs.declared.choosing.ClientKind.{ClientKind}
@@ -43,11 +44,15 @@ is_chosen asker killed wanted entry =
     && (is_text wanted.address entry.address
     && (is_text wanted.local entry.local && (is_kind wanted.kind entry && not (is_spared wanted.spares asker entry.id)))))
 
--- the places of those that are
+-- CLIENT KILL closes one on a seat that is kept for another Sentinel where it names its number or whence it came, and else passes over it
+abbrev pub may_close : Wanted → ClientEntry → Bool
+may_close wanted entry = is_some wanted.id || (is_some wanted.address || not entry.kept)
+
+-- the places of those that are chosen and may be closed
 abbrev pub places_of : (asker : ℕ) → (killed : List ℕ) → Wanted → List ClientEntry → List ℕ
 places_of asker killed wanted [] = []
 places_of asker killed wanted (entry ∷ entries) =
-    elim (is_chosen asker killed wanted entry) [
+    elim (is_chosen asker killed wanted entry && may_close wanted entry) [
       | true ↦ entry.place ∷ places_of asker killed wanted entries
       | false ↦ places_of asker killed wanted entries
     ]

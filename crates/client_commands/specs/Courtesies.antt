@@ -15,6 +15,7 @@ use Rattle.client_commands.specs.declared.verbs.Verb.TheVariants.{Ping, Hello, A
 use Rattle.client_commands.specs.declared.subcommands.Sub.{Sub}
 use Rattle.client_commands.specs.declared.subcommands.Sub.TheVariants.{Help, PendingScripts, InfoCache, Config, SetOption, Monitor, Remove, Reset, Simulate, Debug}
 use Rattle.client_commands.specs.declared.hellos.Expects.{Expects}
+use Rattle.client_commands.specs.declared.hellos.TheConstants.{NAME_MAX}
 use Rattle.client_commands.specs.declared.hellos.Expects.TheVariants.{Start, User, Password, NewName}
 use Rattle.client_commands.specs.declared.courtesies.Courtesy.{Courtesy}
 use Rattle.client_commands.specs.declared.courtesies.Courtesy.TheVariants.{Left, Said, AsksInfo}
@@ -29,7 +30,7 @@ use Rattle.client_commands.specs.Subcommands.{sub_name, all_subs, sub_among, tak
 use Rattle.client_commands.specs.Rows.{families}
 use Rattle.client_commands.specs.Tables.{table, command_info, command_docs, command_list}
 use Rattle.client_commands.specs.Helps.{told_lines, sentinel_help, client_help, command_help}
-use Rattle.client_commands.specs.Refusals.{is_called, printed_byte, unknown_subcommand, unknown_command, syntax_error, wrong_password, no_password, no_auth, no_auth_yet, no_name, no_such_protocol, no_protocol, no_option, no_hello, not_while_listening}
+use Rattle.client_commands.specs.Refusals.{is_called, printed_byte, unknown_subcommand, unknown_command, syntax_error, wrong_password, no_password, no_auth, no_auth_yet, no_name, long_name, no_such_protocol, no_protocol, no_option, no_hello, not_while_listening}
 
 -- what is known of a connection: its number, the name that its client gave it, which protocol it speaks, whether it listens and so has no other commands, the password
 -- that is wanted of its client, where one is, and whether the client gave it; the Sentinel's current epoch as it was last told, where that was; and what its port knows
@@ -255,6 +256,14 @@ is_name_byte b = nat_le 33 b && nat_le b 126
 abbrev pub is_client_name : List ℕ → Bool
 is_client_name word = list_all is_name_byte word
 
+-- which isn't too long
+abbrev pub may_be_name : List ℕ → Bool
+may_be_name word = is_client_name word && nat_le (length word) NAME_MAX
+
+-- why a word isn't taken as a name
+abbrev pub bad_name : List ℕ → Frame
+bad_name word = elim (is_client_name word) [ true ↦ long_name | false ↦ no_name ]
+
 -- there is this user and no other
 abbrev pub is_user : List ℕ → Bool
 is_user word = bytes_eq word (codes "default")
@@ -302,9 +311,9 @@ greeted wanted (Password familiar) option name admitted (word ∷ words) =
       | false ↦ record { name = name; admitted = admitted; refusal = Some wrong_password }
     ]
 greeted wanted NewName option name admitted (word ∷ words) =
-    elim (is_client_name word) [
+    elim (may_be_name word) [
       | true ↦ greeted wanted Start option word admitted words
-      | false ↦ record { name = name; admitted = admitted; refusal = Some no_name }
+      | false ↦ record { name = name; admitted = admitted; refusal = Some (bad_name word) }
     ]
 
 abbrev pub or_else : Option Frame → Frame → Frame
@@ -388,7 +397,7 @@ abbrev pub auth : (wanted : Option (List ℕ)) → List (List ℕ) → Frame
 auth wanted words = elim (admits wanted words) [ true ↦ ok | false ↦ unadmitted wanted (length words) ]
 
 abbrev pub set_name : List (List ℕ) → Frame
-set_name words = elim (is_client_name (first words)) [ true ↦ ok | false ↦ no_name ]
+set_name words = elim (may_be_name (first words)) [ true ↦ ok | false ↦ bad_name (first words) ]
 
 abbrev pub get_name : List ℕ → Frame
 get_name [] = null_bulk
@@ -570,7 +579,7 @@ while_listening verb words = not_while_listening (verb_name verb)
 
 -- the name that a connection has after a command
 abbrev pub name_after : ClientInfo → Verb → List (List ℕ) → List ℕ
-name_after asker SetName words = elim (is_client_name (first words)) [ true ↦ first words | false ↦ asker.name ]
+name_after asker SetName words = elim (may_be_name (first words)) [ true ↦ first words | false ↦ asker.name ]
 name_after asker Hello words = hello_name asker words
 name_after asker verb words = asker.name
 

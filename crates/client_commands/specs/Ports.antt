@@ -4,7 +4,7 @@ use Rattle.client_commands.specs.declared.port_facts.Figures.{Figures}
 use Rattle.client_commands.specs.declared.protocols.Protocol.{Protocol}
 
 -- a client of a port: the number of its connection, whence it came and where to, its name, which protocol it speaks, when it came and when its last byte came, to how
--- many channels and patterns it listens, its place in the port, and whether it is gone
+-- many channels and patterns it listens, its place in the port, whether it is gone, and whether it has a seat that is kept for another Sentinel
 pub record ClientEntry : Type 0 where
   pub id : ℕ
   pub address : List ℕ
@@ -17,6 +17,7 @@ pub record ClientEntry : Type 0 where
   pub patterns : ℕ
   pub place : ℕ
   pub gone : Bool
+  pub kept : Bool
 
 -- what a port counts, its clients, and the places of those that are to be closed
 pub record PortFacts : Type 0 where

@@ -45,6 +45,9 @@ no_password = fault (codes "ERR AUTH <password> called without any password conf
 abbrev pub no_name : Frame
 no_name = fault (codes "ERR Client names cannot contain spaces, newlines or special characters.")
 
+abbrev pub long_name : Frame
+long_name = fault (codes "ERR Client names cannot be longer than 256 bytes.")
+
 abbrev pub no_such_protocol : Frame
 no_such_protocol = fault (codes "NOPROTO unsupported protocol version")
 

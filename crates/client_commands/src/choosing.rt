@@ -1,7 +1,7 @@
 //! Which clients CLIENT LIST and CLIENT KILL name.
 
 ghost use Rattle.std.specs.Prelude.{◌≡◌, Some, None, true, false, IfOk, OnOk};
-ghost use Rattle.client_commands.specs.Choosing.{is_number, is_text, is_kind, is_chosen, places_of, anyone, kind_named, with_id, with_kind, with_user, with_spared, with_option, with_options, chosen_by, is_fit, wanted_after, chosen_wanted, unfit_text};
+ghost use Rattle.client_commands.specs.Choosing.{is_number, is_text, is_kind, is_chosen, may_close, places_of, anyone, kind_named, with_id, with_kind, with_user, with_spared, with_option, with_options, chosen_by, is_fit, wanted_after, chosen_wanted, unfit_text};
 
 use crate::passwords::is_same;
 use crate::port_facts::{ClientEntry, PortFacts};
@@ -138,7 +138,15 @@ impl Wanted {
             && !(self.spares && asker == entry.id())
     }
 
-    /// The places of the clients that are.
+    /// Whether CLIENT KILL may close the client, where it is chosen: one on a seat that is kept for another Sentinel
+    /// only by its number or its address.
+    fn may_close(&self, entry: &ClientEntry) -> bool
+        ensures { result ≡ may_close self.now entry.now }
+    {
+        self.id.is_some() || self.address.is_some() || !entry.is_kept()
+    }
+
+    /// The places of the clients that are chosen and may be closed.
     pub(crate) fn places(
         &self,
         alloc: Global,
@@ -150,7 +158,7 @@ impl Wanted {
         let mut places = Vec::new(alloc);
         let mut rest = port.clients();
         while let [entry, more @ ..] = rest {
-            if self.is_chosen(asker, port.killed(), entry) {
+            if self.is_chosen(asker, port.killed(), entry) && self.may_close(entry) {
                 places.push(entry.place())?;
             }
             rest = more;

@@ -8,7 +8,7 @@ ghost use Rattle.client_commands.specs.Courtesies.{ClientInfo, known, hello, aut
 
 use crate::client_info::ClientInfo;
 use crate::clients::{get_name, no_evict, pong, publish, reply, role, say_bulk, say_number};
-use crate::hellos::{auth, first, hello, is_client_name, set_name};
+use crate::hellos::{auth, first, hello, may_be_name, set_name};
 use crate::helps::{client_help, command_help};
 use crate::infos::{answer_info, asks_sentinel};
 use crate::kills::kill;
@@ -133,7 +133,7 @@ fn rename(
     ensures asker { OnOk result (asker.new ≡ record asker.old { name = name_after asker.old Verb.SetName words.now }) }
 {
     set_name(words, out)?;
-    if is_client_name(first(words)) {
+    if may_be_name(first(words)) {
         asker.rename(Text::from_slice(alloc, first(words))?);
     }
     Ok(())

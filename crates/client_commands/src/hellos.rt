@@ -2,7 +2,7 @@
 
 ghost use Rattle.std.specs.Prelude.{◌≡◌, ◌++◌, ℕ, List, [], Option, IfOk, OnOk, decimal};
 ghost use Rattle.resp2.specs.Framing.Frame.{spelling, line_end};
-ghost use Rattle.client_commands.specs.Courtesies.{first, after_first, is_client_name, is_user, hello_map, is_negative, is_integer, expected, greeted, is_some, refusal_text, greeted_by, greeting_of, welcome, hello, hello_name, hello_admitted, hello_protocol, speaks_then, no_version, admits, unadmitted, auth, set_name};
+ghost use Rattle.client_commands.specs.Courtesies.{first, after_first, is_client_name, may_be_name, bad_name, is_user, hello_map, is_negative, is_integer, expected, greeted, is_some, refusal_text, greeted_by, greeting_of, welcome, hello, hello_name, hello_admitted, hello_protocol, speaks_then, no_version, admits, unadmitted, auth, set_name};
 
 use crate::client_info::ClientInfo;
 use crate::clients::add_number;
@@ -22,6 +22,11 @@ const NO_AUTH_YET: &[u8] =
 
 const NO_NAME: &[u8] =
     b"-ERR Client names cannot contain spaces, newlines or special characters.\r\n";
+
+/// How many bytes the name of a connection has at most.
+pub(crate) const NAME_MAX: usize = 256;
+
+const LONG_NAME: &[u8] = b"-ERR Client names cannot be longer than 256 bytes.\r\n";
 
 /// The first word, and no bytes where there is none.
 pub(crate) fn first(words: &[Text]) -> &[u8]
@@ -43,11 +48,28 @@ pub(crate) fn after_first(words: &[Text]) -> &[Text]
     }
 }
 
-/// Whether the word can be the name of a connection: no space, and nothing that isn't printed.
-pub(crate) fn is_client_name(word: &[u8]) -> bool
+/// Whether the word has no space, and nothing that isn't printed, as the name of a connection.
+fn is_client_name(word: &[u8]) -> bool
     ensures { result ≡ is_client_name word.now }
 {
     word.iter().all(|byte| 33 <= *byte && *byte <= 126)
+}
+
+/// Whether the word can be the name of a connection: such a word of no more than `NAME_MAX` bytes.
+pub(crate) fn may_be_name(word: &[u8]) -> bool
+    ensures { result ≡ may_be_name word.now }
+{
+    is_client_name(word) && word.len() <= NAME_MAX
+}
+
+/// The answer to a command that names a connection with a word that can't be its name.
+fn refuse_name(word: &[u8], out: &mut OutText) -> Result<(), NoMemory>
+    ensures { OnOk result (out.new ≡ spelling (bad_name word.now)) }
+{
+    if is_client_name(word) {
+        return say(out, LONG_NAME);
+    }
+    say(out, NO_NAME)
 }
 
 /// Whether there is a user of this name.
@@ -163,8 +185,8 @@ fn greeted<'a>(
                 expects = Expects::Start;
             }
             Expects::NewName => {
-                if !is_client_name(word) {
-                    say(out, NO_NAME)?;
+                if !may_be_name(word) {
+                    refuse_name(word, out)?;
                     return Ok(left);
                 }
                 left.name = word;
@@ -360,8 +382,8 @@ pub(crate) fn auth(asker: &ClientInfo, words: &[Text], out: &mut OutText) -> Res
 pub(crate) fn set_name(words: &[Text], out: &mut OutText) -> Result<(), NoMemory>
     ensures { OnOk result (out.new ≡ spelling (set_name words.now)) }
 {
-    if is_client_name(first(words)) {
+    if may_be_name(first(words)) {
         return say(out, OK);
     }
-    say(out, NO_NAME)
+    refuse_name(first(words), out)
 }

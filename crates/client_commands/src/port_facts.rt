@@ -81,6 +81,8 @@ pub struct ClientEntry {
     pub place: usize,
     /// Whether it is gone, so that it isn't told of.
     pub gone: bool,
+    /// Whether it has a seat that is kept for another Sentinel.
+    pub kept: bool,
 }
 
 impl Model for ClientEntry {
@@ -100,6 +102,7 @@ impl Model for ClientEntry {
       patterns = entry.patterns;
       place = entry.place;
       gone = entry.gone;
+      kept = entry.kept;
     } };
 }
 
@@ -212,6 +215,13 @@ impl ClientEntry {
         ensures { result ≡ self.now.patterns }
     {
         self.patterns
+    }
+
+    /// Whether it has a seat that is kept for another Sentinel.
+    pub(crate) fn is_kept(&self) -> bool
+        ensures { result ≡ self.now.kept }
+    {
+        self.kept
     }
 
     /// Its place.

@@ -13,7 +13,7 @@ use crate::connection::{Connection, Origin};
 use crate::port_room::PortRoom;
 use crate::process_times::ReadsTimes;
 use crate::roll::{Arrival, Roll};
-use crate::seats::{Newcomer, Seats};
+use crate::seats::{Newcomer, Place, Seats};
 use crate::standing::Look;
 use crate::waiting::{Line, Waiting};
 use ballot_law::{NoMemory, Text};
@@ -240,8 +240,14 @@ impl Clients {
         Ok(())
     }
 
-    /// The arrival of who comes on this connection, from this address, under the next id. The error is the system's.
-    fn next_arrival(&mut self, stream: &TcpStream, address: SocketAddr) -> io::Result<Arrival>
+    /// The arrival of who comes on this connection, from this address and on this seat, under the next id. The error is
+    /// the system's.
+    fn next_arrival(
+        &mut self,
+        stream: &TcpStream,
+        address: SocketAddr,
+        place: Place,
+    ) -> io::Result<Arrival>
         ensures kept { (self.new.connections ≡ self.old.connections) × (self.new.room ≡ self.old.room) }
     {
         let arrival = Arrival {
@@ -249,6 +255,7 @@ impl Clients {
             address,
             local: stream.local_addr()?,
             came: self.reading,
+            kept: place.is_own(),
         };
         self.next_id = self.next_id.saturating_add(u64::from(self.room.threads()));
         Ok(arrival)
@@ -312,7 +319,7 @@ impl Clients {
             is_peer,
             came: self.reading,
         };
-        let arrival = self.next_arrival(&stream, address)?;
+        let arrival = self.next_arrival(&stream, address, place)?;
         self.insert(Connection::new(stream, session, origin), &arrival)?;
         Ok(true)
     }

@@ -15,13 +15,14 @@ use std::net::SocketAddr;
 /// How long the times of the process count, in milliseconds.
 const TIMES_MS: u64 = 1_000;
 
-/// Whence a connection came and where to, and its number.
+/// Whence a connection came and where to, its number, and whether it has a seat that is kept for another Sentinel.
 #[derive(Clone, Copy)]
 pub(crate) struct Arrival {
     pub(crate) id: u64,
     pub(crate) address: SocketAddr,
     pub(crate) local: SocketAddr,
     pub(crate) came: u64,
+    pub(crate) kept: bool,
 }
 
 /// What a thread of a port knows of its own clients, each at its key, and what all threads of the port count. It is
@@ -94,6 +95,7 @@ impl Roll {
             patterns: 0,
             place: key,
             gone: false,
+            kept: arrival.kept,
         };
         match self.facts.clients.get_mut(key) {
             Some(old) => *old = entry,

@@ -7,5 +7,5 @@ mod addresses;
 mod texts;
 
 pub use addresses::{node_address, sentinel_address, shared_address};
-pub(crate) use texts::{add, add_addr, add_own, add_setting, begin};
-pub use texts::{NewGroup, NewGroupFault, is_password, new_group_texts};
+pub(crate) use texts::{add, add_addr, add_master, add_own, add_replica, add_setting, begin};
+pub use texts::{NewGroup, NewGroupFault, NewMaster, is_password, new_group_texts};

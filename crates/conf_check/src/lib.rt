@@ -13,8 +13,8 @@ pub use change::{
     Change, ChangeFault, MasterSetting, NewSetting, Replacement, ReplicaOf, changed_texts,
 };
 pub use creation::{
-    NewGroup, NewGroupFault, is_password, new_group_texts, node_address, sentinel_address,
-    shared_address,
+    NewGroup, NewGroupFault, NewMaster, is_password, new_group_texts, node_address,
+    sentinel_address, shared_address,
 };
 pub use errors::{
     Claim, Collision, Owner, add_notes, collision_of, faults_of, foreign_line,

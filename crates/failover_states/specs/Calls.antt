@@ -31,6 +31,19 @@ abbrev pub promoted_card : FailoverState → Option Card
 promoted_card (WaitPromotion epoch choice former) = Some (record { epoch = epoch; addr = choice.addr })
 promoted_card _ = None
 
+-- a choice that is awaited is to be told once more
+abbrev pub recalled_to : FailoverState → FailoverState
+recalled_to Idle = Idle
+recalled_to (WaitStart epoch) = WaitStart epoch
+recalled_to (SelectReplica epoch) = SelectReplica epoch
+recalled_to (SendPromotion epoch choice) = SendPromotion epoch choice
+recalled_to (WaitPromotion epoch choice former) = SendPromotion epoch choice
+recalled_to (ReconfReplicas epoch choice former) = ReconfReplicas epoch choice former
+recalled_to (UpdateConfig epoch choice) = UpdateConfig epoch choice
+
+abbrev pub recalled : (now : ℕ) → Failover → Failover
+recalled now f = entering (recalled_to f.state) now f
+
 -- and the other replicas are to follow it; elsewhere nothing changes
 abbrev pub promoted : FailoverState → Failover → Failover
 promoted (WaitPromotion epoch choice former) f = entering (ReconfReplicas epoch choice former) f.moment (fresh f)

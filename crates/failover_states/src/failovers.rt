@@ -2,7 +2,7 @@
 
 ghost use Rattle.std.specs.Prelude.{◌≡◌, ℕ, ◌*◌, None, Some, IfOk, length, replicate};
 ghost use Rattle.ballot_law.specs.Clocks.{clock};
-ghost use Rattle.failover_states.specs.Calls.{epoch_of, choice_of, promoted_card, promoted, reconfigured};
+ghost use Rattle.failover_states.specs.Calls.{epoch_of, choice_of, promoted_card, promoted, recalled, recalled_to, reconfigured};
 ghost use Rattle.failover_states.specs.Failovers.{entering, ended};
 ghost use Rattle.failover_states.specs.Known.{known};
 ghost use Rattle.failover_states.specs.Replicas.{untouched, replica_at};
@@ -51,6 +51,18 @@ fn is_past_last_start(last_start: Option<u64>, timeout: u64, now: u64) -> bool
             past / 2 >= timeout
         }
         None => true,
+    }
+}
+
+/// The state in which the choice is told once more, where it is awaited; else the same one.
+fn recalled_to(state: FailoverState) -> FailoverState
+    ensures { result ≡ recalled_to state }
+{
+    match state {
+        FailoverState::WaitPromotion { epoch, choice, .. } => {
+            FailoverState::SendPromotion { epoch, choice }
+        }
+        _ => state,
     }
 }
 
@@ -190,6 +202,15 @@ impl Failover {
             }
             _ => None,
         }
+    }
+
+    /// A choice that is awaited is to be told once more that it is the master, by the next turn; the state that the
+    /// failover is in counts as entered now.
+    pub fn recall(&mut self, now: u64)
+        ensures { self.new ≡ recalled (clock now) self.old }
+    {
+        let state = recalled_to(self.state);
+        self.enter(state, clock_of(now));
     }
 
     /// The node at a place follows the new master, and its link to it is up. While replicas are reconfigured one that

@@ -9,11 +9,14 @@ use Rattle.ballot_law.specs.declared.events.Event.{Event}
 use Rattle.resp2.specs.Framing.Frame.{Frame, simple, fault, int, bulk, null_bulk, items, null_items}
 use Rattle.links.specs.declared.sessions.fault.LinkFault.{LinkFault}
 use Rattle.links.specs.declared.sessions.fault.LinkFault.TheVariants.{Strange}
+use Rattle.links.specs.declared.sessions.heard.Heard.{Heard}
+use Rattle.links.specs.declared.sessions.heard.Heard.TheVariants as replies
+use Rattle.links.specs.declared.sessions.heard.Row.{Row}
 use Rattle.links.specs.declared.sessions.questions.Question.{Question}
 use Rattle.links.specs.declared.sessions.questions.Question.TheVariants as asks
 use Rattle.links.specs.declared.sessions.replies.Vote.{Vote}
 use Rattle.resp2.specs.Long.LongValues.{told_value}
-use Rattle.links.specs.Sessions.Links.{next_asked, heard_of, ping_heard, info_heard, answered, ask_heard, hand_over_heard, named, id_heard, vote_of, hello_in, hello_in_list, hello_heard, is_confirmed, begins_message, list_of, listed, Tells}
+use Rattle.links.specs.Sessions.Links.{next_asked, heard_of, ping_heard, info_heard, answered, ask_heard, hand_over_heard, plain_heard, follow_heard, exec_in, exec_heard, row_in, told_row, row_heard, named, id_heard, vote_of, hello_in, hello_in_list, hello_heard, is_confirmed, begins_message, list_of, listed, Tells}
 use Rattle.links.specs.declared.target.Target.{Target}
 use Rattle.links.specs.NodeLinks.{IsHeardOn, IsAsked}
 
@@ -23,7 +26,7 @@ all_append P (x ∷ xs) ys a b = (a.0, all_append P xs ys a.1 b)
 
 module _ (target : Target) where
   -- what a value may tell
-  abbrev MayTell : Result (Option Event) LinkFault → Type 0
+  abbrev MayTell : Result Heard LinkFault → Type 0
   MayTell (Ok heard) = AllByRecursion (IsHeardOn target) (listed heard)
   MayTell (Err why) = Unit {0}
 
@@ -58,7 +61,7 @@ module _ (target : Target) where
   ask_on master addr null_items = answered_on master addr (vote_of null_items)
   ask_on master addr (items fs) = answered_on master addr (vote_of (items fs))
 
-  named_if : (same : Bool) → MayTell (cond same (Ok None) (Err Strange))
+  named_if : (same : Bool) → MayTell (cond same (Ok replies.Nothing) (Err Strange))
   named_if true = tt
   named_if false = tt
 
@@ -92,7 +95,7 @@ module _ (target : Target) where
   hello_list_on listens (a ∷ b ∷ c ∷ d ∷ fs) = tt
 
   hello_if : target.listens ≡ true → (fs : List Frame) (confirmed begins : Bool)
-      → MayTell (cond confirmed (Ok None) (cond begins (hello_in_list fs) (Err Strange)))
+      → MayTell (cond confirmed (Ok replies.Nothing) (cond begins (hello_in_list fs) (Err Strange)))
   hello_if listens fs true begins = tt
   hello_if listens fs false true = hello_list_on listens fs
   hello_if listens fs false false = tt
@@ -115,6 +118,51 @@ module _ (target : Target) where
   refusal_on null_items = tt
   refusal_on (items fs) = tt
 
+  plain_on : (q : Question) (f : Frame) → AllByRecursion (IsHeardOn target) (listed (plain_heard q f))
+  plain_on q (simple text) = tt
+  plain_on q (fault text) = tt
+  plain_on q (int z) = tt
+  plain_on q (bulk text) = tt
+  plain_on q null_bulk = tt
+  plain_on q null_items = tt
+  plain_on q (items fs) = tt
+
+  follow_on : (promotes : Bool) (f : Frame) → AllByRecursion (IsHeardOn target) (listed (follow_heard target.node promotes f))
+  follow_on promotes (simple text) = tt
+  follow_on true (fault text) = (refl, tt)
+  follow_on false (fault text) = tt
+  follow_on promotes (int z) = tt
+  follow_on promotes (bulk text) = tt
+  follow_on promotes null_bulk = tt
+  follow_on promotes null_items = tt
+  follow_on promotes (items fs) = tt
+
+  exec_in_on : (promotes : Bool) (fs : List Frame) → AllByRecursion (IsHeardOn target) (listed (exec_in target.node promotes fs))
+  exec_in_on promotes [] = tt
+  exec_in_on promotes (f ∷ fs) = follow_on promotes f
+
+  exec_on : (promotes : Bool) (f : Frame) → AllByRecursion (IsHeardOn target) (listed (exec_heard target.node promotes f))
+  exec_on promotes (simple text) = tt
+  exec_on promotes (fault text) = tt
+  exec_on promotes (int z) = tt
+  exec_on promotes (bulk text) = tt
+  exec_on promotes null_bulk = tt
+  exec_on promotes null_items = tt
+  exec_on promotes (items fs) = exec_in_on promotes (list_of fs)
+
+  told_row_on : (row : Option Row) → AllByRecursion (IsHeardOn target) (listed (told_row row))
+  told_row_on None = tt
+  told_row_on (Some row) = tt
+
+  row_on : (f : Frame) → AllByRecursion (IsHeardOn target) (listed (row_heard f))
+  row_on (simple text) = tt
+  row_on (fault text) = tt
+  row_on (int z) = tt
+  row_on (bulk text) = tt
+  row_on null_bulk = tt
+  row_on null_items = tt
+  row_on (items fs) = told_row_on (row_in (list_of fs))
+
   -- a hello is awaited where the connection listens
   abbrev MayAwait : Question → Type 0
   MayAwait asks.Hello = target.listens ≡ true
@@ -125,7 +173,12 @@ module _ (target : Target) where
   value_on asks.Info f may = info_on f
   value_on (asks.Ask master addr) f may = ask_on master addr f
   value_on asks.HandOver f may = refusal_on f
-  value_on asks.Order f may = tt
+  value_on asks.Publish f may = plain_on asks.Publish f
+  value_on (asks.Follow promotes) f may = follow_on promotes f
+  value_on (asks.Exec promotes) f may = exec_on promotes f
+  value_on asks.Abort f may = tt
+  value_on asks.Row f may = row_on f
+  value_on asks.Order f may = plain_on asks.Order f
   value_on (asks.Identity id) f may = id_on id f
   value_on asks.Hello f may = hello_on may f
 
@@ -134,6 +187,11 @@ module _ (target : Target) where
   asked_awaits asks.Info is = tt
   asked_awaits (asks.Ask master addr) is = tt
   asked_awaits asks.HandOver is = tt
+  asked_awaits asks.Publish is = tt
+  asked_awaits (asks.Follow promotes) is = tt
+  asked_awaits (asks.Exec promotes) is = tt
+  asked_awaits asks.Abort is = tt
+  asked_awaits asks.Row is = tt
   asked_awaits asks.Order is = tt
   asked_awaits (asks.Identity id) is = tt
   asked_awaits asks.Hello is = absurd is

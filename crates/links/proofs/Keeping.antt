@@ -107,8 +107,9 @@ questions_asked bodies.InfoAsk = (tt, tt)
 questions_asked (bodies.InfoText info) = (tt, tt)
 questions_asked (bodies.Publish hello) = (tt, tt)
 questions_asked (bodies.HelloText hello) = (tt, tt)
-questions_asked (bodies.ReplicaOf to) = (tt, (tt, (tt, (tt, (tt, (tt, tt))))))
-questions_asked (bodies.HandOver heir) = (tt, tt)
+questions_asked (bodies.ReplicaOf to) = (tt, (tt, (tt, (tt, (tt, (tt, (tt, tt)))))))
+questions_asked (bodies.HandOver None) = (tt, tt)
+questions_asked (bodies.HandOver (Some heir)) = (tt, tt)
 questions_asked (bodies.AddressAsk name) = (tt, tt)
 questions_asked (bodies.AddressAnswer shown) = (tt, tt)
 questions_asked (bodies.PortReply shown text) = (tt, tt)
@@ -136,12 +137,12 @@ kept_asked target body before talk kept is bounds =
     subst (IsKept target) (sym is) (kept_more target before (bytes_for body) (questions_for body) kept (questions_asked body) short few)
 
 pub kept_row : (target : Target) (name : List ℕ) (before talk : Link) → IsKept target before
-    → talk ≡ record before { unsent = before.unsent ++ row_bytes name; asked = before.asked ++ asks.Order ∷ [] }
+    → talk ≡ record before { unsent = before.unsent ++ row_bytes name; asked = before.asked ++ asks.Row ∷ [] }
     → (length talk.unsent ≤ UNSENT_MAX) × (length talk.asked ≤ ASKED_MAX) → IsKept target talk
 kept_row target name before talk kept is bounds =
     let short = subst (λ (t : Link). length t.unsent ≤ UNSENT_MAX) is bounds.0 in
     let few = subst (λ (t : Link). length t.asked ≤ ASKED_MAX) is bounds.1 in
-    subst (IsKept target) (sym is) (kept_more target before (row_bytes name) (asks.Order ∷ []) kept (tt, tt) short few)
+    subst (IsKept target) (sym is) (kept_more target before (row_bytes name) (asks.Row ∷ []) kept (tt, tt) short few)
 
 pub kept_ack : (target : Target) (before talk : Link) → IsKept target before
     → talk ≡ record before { unsent = before.unsent ++ ack_bytes; asked = before.asked ++ asks.Order ∷ [] }
@@ -156,7 +157,7 @@ pub excused_waiting : (now : ℕ) (asked : List Question) (times : Schedule) →
 excused_waiting now [] times some = absurd (omega (arith, some))
 excused_waiting now (question ∷ asked) times some = refl
 
-pub excused_alone : (now : ℕ) (asked : List Question) (times : Schedule) → length asked ≤ 0 → excused now asked times ≡ record times { quiet = now }
+pub excused_alone : (now : ℕ) (asked : List Question) (times : Schedule) → length asked ≤ 0 → excused now asked times ≡ record times { quiet = now; came = 0 }
 excused_alone now [] times none = refl
 excused_alone now (question ∷ asked) times none = absurd (omega (arith, none))
 

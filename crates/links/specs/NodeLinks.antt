@@ -1,5 +1,5 @@
 -- A connection without its socket.
-use Rattle.std.specs.Prelude.{◌≡◌, ◌≤◌, ℕ, true, List, [], ◌∷◌, ◌++◌, length, None}
+use Rattle.std.specs.Prelude.{◌≡◌, ◌≤◌, ℕ, Bool, true, nat_lt, ◌||◌, List, [], ◌∷◌, ◌++◌, length, None}
 use Rattle.std.specs.List.{AllByRecursion}
 use Rattle.ballot_law.specs.declared.events.Event.{Event}
 use Rattle.ballot_law.specs.declared.events.Event.TheVariants.{Answered, Pinged, InfoRead, HelloRead, Refused}
@@ -56,8 +56,8 @@ asked_at now body state = record {
 abbrev pub row_asked_at : ℕ → (name : List ℕ) → State → State
 row_asked_at now name state = record {
   target = state.target;
-  schedule = record state.schedule { quiet = now };
-  talk = record state.talk { unsent = state.talk.unsent ++ row_bytes name; asked = state.talk.asked ++ asks.Order ∷ [] };
+  schedule = record state.schedule { quiet = now; came = 0 };
+  talk = record state.talk { unsent = state.talk.unsent ++ row_bytes name; asked = state.talk.asked ++ asks.Row ∷ [] };
 }
 
 -- that the node is to acknowledge joins what is unsent, and one answer is awaited, which tells nothing
@@ -113,3 +113,7 @@ pub record IsKept (target : Target) (talk : Link) : Type 0 where
   pub going : talk.ended ≡ None
   pub questions : AllByRecursion IsAsked talk.asked
   pub bounded : IsBounded talk
+
+-- whole answers came, as fewer are awaited, or more was heard
+abbrev pub answers : (asked left before after : ℕ) → Bool
+answers asked left before after = nat_lt left asked || nat_lt before after

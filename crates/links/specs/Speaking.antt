@@ -7,7 +7,7 @@ use Rattle.node_texts.specs.Messages.MessageTexts.{message_bytes, words_frame, h
 use Rattle.resp2.specs.Framing.Frame.{spelling}
 use Rattle.links.specs.declared.sessions.questions.Question.{Question}
 use Rattle.links.specs.declared.sessions.questions.Question.TheVariants as asks
-use Rattle.links.specs.Sessions.Links.{question_of}
+use Rattle.links.specs.Sessions.Links.{question_of, is_nobody}
 use Rattle.links.specs.declared.speaking.Login.{Login}
 use Rattle.links.specs.declared.speaking.Login.TheVariants.{Without, Pass, User}
 
@@ -24,14 +24,19 @@ after_order =
     ++ (command_bytes (codes "CLIENT" ∷ codes "KILL" ∷ codes "TYPE" ∷ codes "pubsub" ∷ [])
     ++ command_bytes (codes "EXEC" ∷ [])))
 
+-- before it a switch is ended that the node has begun and can't end: until then it would refuse the order
+abbrev pub abort_bytes : List ℕ
+abort_bytes = command_bytes (codes "FAILOVER" ∷ codes "ABORT" ∷ [])
+
 -- the bytes that go over the connection for a message
 abbrev pub bytes_for : Body → List ℕ
-bytes_for (ReplicaOf to) = command_bytes (codes "MULTI" ∷ []) ++ (message_bytes (ReplicaOf to) ++ after_order)
+bytes_for (ReplicaOf to) = abort_bytes ++ (command_bytes (codes "MULTI" ∷ []) ++ (message_bytes (ReplicaOf to) ++ after_order))
 bytes_for body = message_bytes body
 
 -- what their answers will be about
 abbrev pub questions_for : Body → List Question
-questions_for (ReplicaOf to) = asks.Order ∷ asks.Order ∷ asks.Order ∷ asks.Order ∷ asks.Order ∷ asks.Order ∷ []
+questions_for (ReplicaOf to) =
+    asks.Abort ∷ asks.Order ∷ asks.Follow (is_nobody to) ∷ asks.Order ∷ asks.Order ∷ asks.Order ∷ asks.Exec (is_nobody to) ∷ []
 questions_for body = question_of body ∷ []
 
 -- the question for the row of a master, by its name

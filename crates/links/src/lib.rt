@@ -2,7 +2,7 @@
 //! socket: which node a connection is to (`Target`), when it is opened, given up and asked (`Schedule`), what goes over
 //! it and is heard on it meanwhile (`NodeLink`), and when the Sentinel ticks (`TickSchedule`). Beside them: how much
 //! may be heard (`RateLimit`), which hellos were heard already (`HelloDedup`), what is to be noted of connections
-//! (`SilenceTimer`, `RecentFaults`, `is_refusal`, `wants_login`), and INFO with names in it (`without_names`).
+//! (`SilenceTimer`, `RecentFaults`), and INFO with names in it (`without_names`).
 //!
 //! ```text
 //! if link.stale(now).is_some() { link.close(now); }         // and its owner drops the socket
@@ -10,7 +10,7 @@
 //! link.ask(&message, now)?;                                  // it joins what is unsent
 //! let count = socket.write(link.unsent())?;
 //! link.sent(count);
-//! link.received(piece, now, &mut events)?;                   // what the values that are whole with it say
+//! link.received(piece, now, &mut heard)?;                    // what the values that are whole with it say
 //! ```
 #![tactic(auto)]
 
@@ -19,7 +19,6 @@ mod host_names;
 mod node_link;
 mod rate_limit;
 mod recent_faults;
-mod refusals;
 mod schedule;
 mod sessions;
 mod silence_timer;
@@ -33,10 +32,10 @@ pub use host_names::without_names;
 pub use node_link::NodeLink;
 pub use rate_limit::RateLimit;
 pub use recent_faults::RecentFaults;
-pub use refusals::{is_refusal, wants_login};
 pub use schedule::{Schedule, Stage, Stale, ping_each};
 pub use sessions::{
-    ASKED_MAX, LinkFault, LinkSession, Question, Vote, law_pieces_join, question_of,
+    ASKED_MAX, Heard, LinkFault, LinkSession, Question, Refusal, Row, Vote, law_pieces_join,
+    question_of,
 };
 pub use silence_timer::SilenceTimer;
 pub use speaking::Login;
@@ -44,5 +43,5 @@ pub use target::{Target, connection_count, place_of, target_at};
 pub use tick_schedule::{TickSchedule, is_gap, pause_of, turn_of};
 pub use times::{
     ACKS_MS, CATCH_UP_MS, DIFFERENT_MS, FLOW_MS, HELLO_AGAIN_MS, HURRY_MS, KEEP_MS, LOOK_MS,
-    NO_HELLOS_MS, REST_MS, ROW_EACH_MS, STRANGERS_MS, WAIT_MAX_MS,
+    MUTE_MS, NO_HELLOS_MS, REST_MS, ROW_EACH_MS, STRANGERS_MS, SWITCH_MS, WAIT_MAX_MS,
 };

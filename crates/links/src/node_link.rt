@@ -4,19 +4,19 @@ ghost use Rattle.std.specs.Prelude.{◌≡◌, ◌≢◌, ◌≤◌, ◌<◌, �
 ghost use Rattle.std.specs.List.{AllByRecursion};
 ghost use Rattle.ballot_law.specs.declared.events.Event.{Event};
 ghost use Rattle.ballot_law.specs.declared.messages.NodeName.TheVariants.{StoreAt};
-ghost use Rattle.links.specs.Sessions.Links.{Receives};
+ghost use Rattle.links.specs.Sessions.Links.{Receives, events_in, Grows, owes_hello};
 ghost use Rattle.node_texts.specs.Messages.MessageTexts.{IsWritable};
 ghost use Rattle.links.specs.declared.schedule.Stage.TheVariants.{Closed, Opening, Open};
-ghost use Rattle.links.specs.declared.schedule.Stale.TheVariants.{Unreached, Silent, NoHello};
-ghost use Rattle.links.specs.NodeLinks.{fresh, closed_at, opening_at, asked_at, row_asked_at, ack_asked_at, AsksByItself, IsOwn, IsHeardOn, IsBounded};
-ghost use Rattle.links.specs.Schedules.{IsPast, closed};
+ghost use Rattle.links.specs.declared.schedule.Stale.TheVariants.{Unreached, Silent, Unfinished, NoHello};
+ghost use Rattle.links.specs.NodeLinks.{fresh, closed_at, opening_at, asked_at, row_asked_at, ack_asked_at, AsksByItself, IsOwn, IsHeardOn, IsBounded, answers};
+ghost use Rattle.links.specs.Schedules.{IsPast, after_piece, closed, patience};
 
 use crate::schedule::{Schedule, Stale};
-use crate::sessions::{LinkFault, LinkSession};
+use crate::sessions::{Heard, LinkFault, LinkSession};
 use crate::speaking::{Login, put_ack_question, put_first_words, put_message, put_row_question};
 use crate::target::Target;
 use crate::times::{CONNECT_MS, NO_HELLO_MS, SILENT_MS};
-use ballot_law::{Body, Event, Message, NodeName};
+use ballot_law::{Body, Message, NodeName};
 use std::alloc::Global;
 use std::marker::Model;
 
@@ -65,6 +65,14 @@ fn closed(alloc: Global, target: Target, schedule: &mut Schedule, now: u64) -> L
 {
     schedule.close(now);
     fresh(alloc, target)
+}
+
+/// Whether whole answers or hellos came with a piece, before which so many answers were awaited and so much was heard:
+/// fewer are awaited, or more was heard.
+fn answers(asked: usize, left: usize, before: usize, after: usize) -> bool
+    ensures { result ≡ answers asked left before after }
+{
+    left < asked || before < after
 }
 
 impl NodeLink {
@@ -119,12 +127,27 @@ impl NodeLink {
     pub fn stale(&self, now: u64) -> Option<Stale>
         ensures unreached { result ≡ Some Unreached ↔ ((self.now.schedule.stage ≡ Opening) × (CONNECT_MS ≤ now - self.now.schedule.since)) }
         ensures silent { result ≡ Some Silent
-            ↔ ((self.now.schedule.stage ≡ Open) × (self.now.target.listens ≡ false) × (0 < length self.now.talk.asked) × (SILENT_MS ≤ now - self.now.schedule.quiet)) }
+            ↔ ((self.now.schedule.stage ≡ Open) × (self.now.target.listens ≡ false) × (0 < length self.now.talk.asked)
+            × (self.now.schedule.came ≡ 0) × (SILENT_MS ≤ now - self.now.schedule.quiet)) }
+        ensures unfinished { result ≡ Some Unfinished
+            ↔ ((self.now.schedule.stage ≡ Open) × (self.now.target.listens ≡ false) × (0 < length self.now.talk.asked)
+            × (0 < self.now.schedule.came) × (patience self.now.schedule.came ≤ now - self.now.schedule.quiet)) }
         ensures no_hello { result ≡ Some NoHello
             ↔ ((self.now.schedule.stage ≡ Open) × (self.now.target.listens ≡ true) × (NO_HELLO_MS ≤ now - self.now.schedule.quiet)) }
     {
         let waits = self.session.is_waiting();
         self.schedule.stale(self.target.listens, waits, now)
+    }
+
+    /// Whether a hello holds the other answers up: for longer than lies between two PINGs its answer has been awaited,
+    /// and before all others. So a node does that makes writes wait, as one that hands over: it answers PING at once,
+    /// but not behind a PUBLISH.
+    pub fn is_held_up(&self, now: u64) -> bool
+        ensures { IsTrue result ↔ ((self.now.schedule.stage ≡ Open) × (owes_hello self.now.talk.asked ≡ true)
+            × (self.now.schedule.ping_each ≤ now - self.now.schedule.quiet)) }
+    {
+        let quiet = now.saturating_sub(self.schedule.quiet);
+        self.schedule.is_open() && self.session.owes_hello() && quiet >= self.schedule.ping_each
     }
 
     /// It is closed from now on.
@@ -159,7 +182,7 @@ impl NodeLink {
     /// It is open from now on.
     pub fn reach(&mut self, now: u64)
         ensures { self.new ≡ record self.old {
-          schedule = record self.old.schedule { stage = Open; since = now; quiet = now; pinged = None; infos = 0 };
+          schedule = record self.old.schedule { stage = Open; since = now; quiet = now; came = 0; pinged = None; infos = 0 };
         } }
     {
         self.schedule.reach(now);
@@ -167,7 +190,7 @@ impl NodeLink {
 
     /// What was silent so far counts no more: it was this Sentinel that stood still.
     pub fn excuse(&mut self, now: u64)
-        ensures { self.new ≡ record self.old { schedule = record self.old.schedule { quiet = now } } }
+        ensures { self.new ≡ record self.old { schedule = record self.old.schedule { quiet = now; came = 0 } } }
     {
         self.schedule.excuse(now);
     }
@@ -216,24 +239,31 @@ impl NodeLink {
     }
 
     /// Takes the next piece of what the node sends, and adds what the values tell that are whole with it, as
-    /// `LinkSession::received` does. A fault closes it.
+    /// `LinkSession::received` does. The silence ends where a whole answer or hello came, not where bytes did. A fault
+    /// closes it.
     #[tactic(auto, using(crate::proofs::Keeping::kept_anew))]
     pub fn received(
         &mut self,
         piece: &[u8],
         now: u64,
-        events: &mut Vec<Event>,
+        heard: &mut Vec<Heard>,
     ) -> Result<(), LinkFault>
-        ensures received { (more : List Event) × (events.new.items ≡ events.old.items ++ more) × AllByRecursion (IsHeardOn self.old.target) more
+        ensures received { (more : List Event) × (events_in heard.new.items ≡ events_in heard.old.items ++ more)
+            × AllByRecursion (IsHeardOn self.old.target) more
             × Receives self.old.target.node self.old.target.listens self.old.talk.asked (self.old.talk.held ++ piece.now) result more self.new.talk.asked self.new.talk.held }
+        ensures grows { Grows heard.old.items heard.new.items }
         ensures unsent { OnOk result (self.new.talk.unsent ≡ self.old.talk.unsent) }
-        ensures schedule { OnOk result (self.new.schedule ≡ record self.old.schedule { quiet = now; pause = 0 }) }
+        ensures schedule { OnOk result (self.new.schedule
+            ≡ after_piece (answers (length self.old.talk.asked) (length self.new.talk.asked) (length heard.old.items) (length heard.new.items)) now (length piece.now) self.old.schedule) }
         ensures target { self.new.target ≡ self.old.target }
         ensures err { OnErr result (self.new ≡ closed_at now self.old) }
     {
-        match self.session.received(piece, events) {
+        let (owed, told) = (self.session.owed(), heard.len());
+        match self.session.received(piece, heard) {
             Ok(()) => {
-                self.schedule.hear(now);
+                let is_answered = answers(owed, self.session.owed(), told, heard.len());
+                self.schedule
+                    .take_piece(is_answered, now, piece.len() as u64);
                 Ok(())
             }
             Err(fault) => {
@@ -301,8 +331,7 @@ impl NodeLink {
     }
 
     /// Asks for the row of a master, by its name, where it is open, takes messages, and no answer is awaited on it, so
-    /// that the next value that comes is the answer: whether it asked. The answer is heard as that to an order, which
-    /// tells nothing. A fault closes it.
+    /// that the next value that comes is the answer: whether it asked. A fault closes it.
     #[tactic(auto, using(crate::proofs::Keeping::kept_anew, crate::proofs::Keeping::kept_row))]
     pub fn ask_row(&mut self, name: &[u8], now: u64) -> Result<bool, LinkFault>
         ensures asked { IfOk result (λ is_asked. IsTrue is_asked

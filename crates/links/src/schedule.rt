@@ -1,13 +1,13 @@
 //! When a connection is opened, given up, and asked besides what the Sentinel asks.
 
-ghost use Rattle.std.specs.Prelude.{◌≡◌, ◌≤◌, ◌↔◌, ◌+◌, ◌-◌, ◌/◌, true, false, Some, None, IsTrue, max, min};
+ghost use Rattle.std.specs.Prelude.{◌≡◌, ◌≤◌, ◌<◌, ◌↔◌, ◌+◌, ◌-◌, ◌/◌, ◌^◌, true, false, Some, None, IsTrue, max, min};
 ghost use Rattle.links.specs.declared.schedule.Stage.TheVariants.{Closed, Opening, Open};
-ghost use Rattle.links.specs.declared.schedule.Stale.TheVariants.{Unreached, Silent, NoHello};
-ghost use Rattle.links.specs.Schedules.{IsPast, begun, closed};
+ghost use Rattle.links.specs.declared.schedule.Stale.TheVariants.{Unreached, Silent, Unfinished, NoHello};
+ghost use Rattle.links.specs.Schedules.{IsPast, after_piece, begun, closed, patience};
 
 use crate::times::{
-    ASK_INFO_MS, CONNECT_MS, LASTING_MS, NO_HELLO_MS, PAUSE_MAX_MS, PAUSE_MIN_MS, PING_MAX_MS,
-    PING_MIN_MS, PINGS, SILENT_MS,
+    ASK_INFO_MS, CONNECT_MS, LASTING_MS, LONG_BYTES, LONG_MS, NO_HELLO_MS, PAUSE_MAX_MS,
+    PAUSE_MIN_MS, PING_MAX_MS, PING_MIN_MS, PINGS, SILENT_MS,
 };
 
 /// Where a connection stands.
@@ -28,31 +28,45 @@ pub enum Stale {
     Unreached,
     /// An answer is awaited, and nothing came for too long.
     Silent,
+    /// An answer is awaited, and what came for too long is no whole one.
+    Unfinished,
     /// It listens to hellos, and none came for too long.
     NoHello,
 }
 
 /// The times of a connection, readings of one clock in milliseconds: `since` is when its stage began, `quiet` when the
-/// silence began that counts, and `pinged` when it last sent a PING. `ping_each` is how long it is between two PINGs,
-/// `pause` how long it stays closed, and `infos` the time, of those between two INFOs since it was opened, at which it
-/// is to ask for INFO by itself again.
+/// silence began that counts, as when the last whole answer came, and `pinged` when it last sent a PING. `came` is how
+/// many bytes came in that silence, `ping_each` how long it is between two PINGs, `pause` how long it stays closed, and
+/// `infos` the time, of those between two INFOs since it was opened, at which it is to ask for INFO by itself again.
 #[derive(Clone, Copy)]
 pub struct Schedule {
     pub stage: Stage,
     pub since: u64,
     pub quiet: u64,
+    pub came: u64,
     pub pause: u64,
     pub pinged: Option<u64>,
     pub ping_each: u64,
     pub infos: u64,
 }
 
-/// How many milliseconds it is between two PINGs to a node that is down after a silence of so many: an eighth of that,
-/// so that a pause of the node's own machine is seldom taken for one, and from `PING_MIN_MS` to `PING_MAX_MS`.
+/// How many milliseconds it is between two PINGs to a node that is down after a silence of so many: a third of that, so
+/// that one answer that is late makes no node down, and from `PING_MIN_MS` to `PING_MAX_MS`.
 pub fn ping_each(down_after: u64) -> u64
     ensures { result ≡ min (max (down_after / PINGS) PING_MIN_MS) PING_MAX_MS }
 {
     (down_after / PINGS).max(PING_MIN_MS).min(PING_MAX_MS)
+}
+
+/// How long an answer may take of which so many bytes came, in milliseconds.
+fn patience(came: u64) -> u64
+    ensures { result ≡ patience came }
+{
+    if came > LONG_BYTES {
+        LONG_MS
+    } else {
+        SILENT_MS
+    }
 }
 
 impl Schedule {
@@ -66,6 +80,7 @@ impl Schedule {
             stage: Stage::Closed,
             since: 0,
             quiet: 0,
+            came: 0,
             pause: 0,
             pinged: None,
             ping_each,
@@ -85,7 +100,9 @@ impl Schedule {
     pub fn stale(&self, listens: bool, waits: bool, now: u64) -> Option<Stale>
         ensures unreached { result ≡ Some Unreached ↔ ((self.now.stage ≡ Opening) × (CONNECT_MS ≤ now - self.now.since)) }
         ensures silent { result ≡ Some Silent
-            ↔ ((self.now.stage ≡ Open) × (listens ≡ false) × (waits ≡ true) × (SILENT_MS ≤ now - self.now.quiet)) }
+            ↔ ((self.now.stage ≡ Open) × (listens ≡ false) × (waits ≡ true) × (self.now.came ≡ 0) × (SILENT_MS ≤ now - self.now.quiet)) }
+        ensures unfinished { result ≡ Some Unfinished
+            ↔ ((self.now.stage ≡ Open) × (listens ≡ false) × (waits ≡ true) × (0 < self.now.came) × (patience self.now.came ≤ now - self.now.quiet)) }
         ensures no_hello { result ≡ Some NoHello
             ↔ ((self.now.stage ≡ Open) × (listens ≡ true) × (NO_HELLO_MS ≤ now - self.now.quiet)) }
     {
@@ -96,7 +113,13 @@ impl Schedule {
                 Stale::Unreached,
             ),
             Stage::Open if listens && quiet >= NO_HELLO_MS => Some(Stale::NoHello),
-            Stage::Open if !listens && waits && quiet >= SILENT_MS => Some(Stale::Silent),
+            Stage::Open if !listens && waits && quiet >= patience(self.came) => {
+                if self.came == 0 {
+                    Some(Stale::Silent)
+                } else {
+                    Some(Stale::Unfinished)
+                }
+            }
             _ => None,
         }
     }
@@ -107,16 +130,16 @@ impl Schedule {
     {
         self.stage = Stage::Opening;
         self.since = now;
-        self.quiet = now;
+        self.excuse(now);
     }
 
     /// It is open from now on. A PING and an INFO are due at once.
     pub fn reach(&mut self, now: u64)
-        ensures { self.new ≡ record self.old { stage = Open; since = now; quiet = now; pinged = None; infos = 0 } }
+        ensures { self.new ≡ record self.old { stage = Open; since = now; quiet = now; came = 0; pinged = None; infos = 0 } }
     {
         self.stage = Stage::Open;
         self.since = now;
-        self.quiet = now;
+        self.excuse(now);
         self.pinged = None;
         self.infos = 0;
     }
@@ -128,19 +151,31 @@ impl Schedule {
         self.stage == Stage::Open
     }
 
-    /// Something came that its session took: the next pause is the shortest again.
+    /// A whole answer or hello came: the next pause is the shortest again.
     pub fn hear(&mut self, now: u64)
-        ensures { self.new ≡ record self.old { quiet = now; pause = 0 } }
+        ensures { self.new ≡ record self.old { quiet = now; came = 0; pause = 0 } }
     {
-        self.quiet = now;
+        self.excuse(now);
         self.pause = 0;
+    }
+
+    /// So many bytes came, with which whole answers or hellos came or didn't: bytes alone don't end the silence.
+    pub fn take_piece(&mut self, answers: bool, now: u64, count: u64)
+        ensures { self.new ≡ after_piece answers now count self.old }
+    {
+        if answers {
+            self.hear(now);
+        } else {
+            self.came = self.came.saturating_add(count);
+        }
     }
 
     /// What was silent so far counts no more: a first answer is awaited, or it was this Sentinel that stood still.
     pub fn excuse(&mut self, now: u64)
-        ensures { self.new ≡ record self.old { quiet = now } }
+        ensures { self.new ≡ record self.old { quiet = now; came = 0 } }
     {
         self.quiet = now;
+        self.came = 0;
     }
 
     /// It is closed from now on. Where nothing was heard since it was last closed, the pause is twice as long as the

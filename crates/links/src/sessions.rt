@@ -10,11 +10,12 @@
 //! link.ask(&message)?;                          // its spelling joins what is unsent
 //! let count = connection.write(link.unsent())?;
 //! link.sent(count);
-//! link.received(piece, &mut events)?;           // what the replies that are whole with it tell, in order
+//! link.received(piece, &mut heard)?;            // what the replies that are whole with it tell, in order
 //! ```
 
 mod conversation;
 mod fault;
+mod heard;
 mod laws;
 mod link_session;
 mod questions;
@@ -22,7 +23,9 @@ mod replies;
 
 pub use conversation::ASKED_MAX;
 pub use fault::LinkFault;
+pub use heard::{Heard, Refusal, Row};
 pub use laws::law_pieces_join;
 pub use link_session::LinkSession;
+pub(crate) use questions::is_nobody;
 pub use questions::{Question, question_of};
 pub use replies::Vote;

@@ -2,11 +2,11 @@
 
 ghost use Rattle.std.specs.Prelude.{◌≡◌, ◌≤◌, ◌↔◌, ◌++◌, ◌∷◌, [], length, IsOk, IfErr, OnOk, codes};
 ghost use Rattle.node_texts.specs.Messages.MessageTexts.{IsWritable, message_bytes};
-ghost use Rattle.links.specs.Speaking.{bytes_for, questions_for, command_bytes, after_order, row_bytes, ack_bytes, login_bytes, login_questions, id_bytes, id_questions, listen_bytes, listen_questions};
-ghost use Rattle.links.specs.Sessions.Links.{question_of};
+ghost use Rattle.links.specs.Speaking.{bytes_for, questions_for, command_bytes, after_order, abort_bytes, row_bytes, ack_bytes, login_bytes, login_questions, id_bytes, id_questions, listen_bytes, listen_questions};
+ghost use Rattle.links.specs.Sessions.Links.{question_of, is_nobody};
 ghost use Rattle.links.specs.declared.sessions.questions.Question.TheVariants as asks;
 
-use crate::sessions::{ASKED_MAX, LinkFault, LinkSession};
+use crate::sessions::{ASKED_MAX, LinkFault, LinkSession, Question, is_nobody};
 use ballot_law::{Body, Message, RunId};
 
 /// How many bytes may be unsent; a connection on which more are is given up.
@@ -23,33 +23,52 @@ pub enum Login<'a> {
     User(&'a [u8], &'a [u8]),
 }
 
-/// Puts out what comes after an order to follow a master.
-fn put_after_order(session: &mut LinkSession) -> Result<(), LinkFault>
+/// Puts out what comes after an order to follow a master, or none, which promotes its node then.
+fn put_after_order(session: &mut LinkSession, promotes: bool) -> Result<(), LinkFault>
     ensures ok { OnOk result (session.new ≡ record session.old {
       unsent = session.old.unsent ++ after_order;
-      asked = session.old.asked ++ asks.Order ∷ asks.Order ∷ asks.Order ∷ asks.Order ∷ [];
+      asked = session.old.asked ++ asks.Order ∷ asks.Order ∷ asks.Order ∷ asks.Exec promotes ∷ [];
     }) }
     ensures few { OnOk result (length session.new.asked ≤ ASKED_MAX) }
 {
     session.order(&[b"CONFIG", b"REWRITE"])?;
     session.order(&[b"CLIENT", b"KILL", b"TYPE", b"normal"])?;
     session.order(&[b"CLIENT", b"KILL", b"TYPE", b"pubsub"])?;
-    session.order(&[b"EXEC"])
+    session.command(&[b"EXEC"], Question::Exec { promotes })
 }
 
-/// Puts out an order to follow a master, or none, with what has to come with it.
-fn put_order(session: &mut LinkSession, message: &Message) -> Result<(), LinkFault>
+/// Puts out an order to follow a master, or none, with what has to come with it, in one transaction.
+fn put_transaction(
+    session: &mut LinkSession,
+    message: &Message,
+    promotes: bool,
+) -> Result<(), LinkFault>
     requires { IsWritable message.now.body }
     ensures ok { OnOk result (session.new ≡ record session.old {
       unsent = session.old.unsent ++ (command_bytes (codes "MULTI" ∷ []) ++ (message_bytes message.now.body ++ after_order));
       asked = session.old.asked
-          ++ asks.Order ∷ question_of message.now.body ∷ asks.Order ∷ asks.Order ∷ asks.Order ∷ asks.Order ∷ [];
+          ++ asks.Order ∷ question_of message.now.body ∷ asks.Order ∷ asks.Order ∷ asks.Order ∷ asks.Exec promotes ∷ [];
     }) }
     ensures few { OnOk result (length session.new.asked ≤ ASKED_MAX) }
 {
     session.order(&[b"MULTI"])?;
     session.ask(message)?;
-    put_after_order(session)
+    put_after_order(session, promotes)
+}
+
+/// Puts out an order to follow a master, or none, after the end of a switch that its node has begun.
+fn put_order(session: &mut LinkSession, message: &Message, promotes: bool) -> Result<(), LinkFault>
+    requires { IsWritable message.now.body }
+    ensures ok { OnOk result (session.new ≡ record session.old {
+      unsent = session.old.unsent
+          ++ (abort_bytes ++ (command_bytes (codes "MULTI" ∷ []) ++ (message_bytes message.now.body ++ after_order)));
+      asked = session.old.asked
+          ++ asks.Abort ∷ asks.Order ∷ question_of message.now.body ∷ asks.Order ∷ asks.Order ∷ asks.Order ∷ asks.Exec promotes ∷ [];
+    }) }
+    ensures few { OnOk result (length session.new.asked ≤ ASKED_MAX) }
+{
+    session.command(&[b"FAILOVER", b"ABORT"], Question::Abort)?;
+    put_transaction(session, message, promotes)
 }
 
 /// Puts out what goes over the connection for a message.
@@ -61,8 +80,8 @@ fn put_words(session: &mut LinkSession, message: &Message) -> Result<(), LinkFau
     }) }
     ensures few { OnOk result (length session.new.asked ≤ ASKED_MAX) }
 {
-    match message.body {
-        Body::ReplicaOf(_) => put_order(session, message),
+    match &message.body {
+        Body::ReplicaOf(to) => put_order(session, message, is_nobody(to)),
         _ => session.ask(message),
     }
 }
@@ -79,7 +98,7 @@ fn is_short(session: &LinkSession) -> Result<(), LinkFault>
 }
 
 /// Puts out a message: an order to follow a master goes with CONFIG REWRITE and CLIENT KILL of normal clients and of
-/// subscribers, in one MULTI.
+/// subscribers, in one MULTI, after FAILOVER ABORT.
 ///
 /// `Full` where too much is unsent with it, or too many answers are awaited, and `NoMemory`: all or a part of it may
 /// have been put out then, so the caller gives the connection up.
@@ -95,16 +114,15 @@ pub(crate) fn put_message(session: &mut LinkSession, message: &Message) -> Resul
     is_short(session)
 }
 
-/// Puts out the question for the row of a master, by its name. The answer tells nothing here. A fault is as that of
-/// `put_message`.
+/// Puts out the question for the row of a master, by its name. A fault is as that of `put_message`.
 pub(crate) fn put_row_question(session: &mut LinkSession, name: &[u8]) -> Result<(), LinkFault>
     ensures ok { OnOk result (session.new ≡ record session.old {
       unsent = session.old.unsent ++ row_bytes name.now;
-      asked = session.old.asked ++ asks.Order ∷ [];
+      asked = session.old.asked ++ asks.Row ∷ [];
     }) }
     ensures bounded { OnOk result ((length session.new.unsent ≤ UNSENT_MAX) × (length session.new.asked ≤ ASKED_MAX)) }
 {
-    session.order(&[b"SENTINEL", b"MASTER", name])?;
+    session.command(&[b"SENTINEL", b"MASTER", name], Question::Row)?;
     is_short(session)
 }
 

@@ -5,8 +5,14 @@
 /// How long a connection may take to be opened, in milliseconds.
 pub const CONNECT_MS: u64 = 1_000;
 
-/// How long nothing may come while an answer is awaited, in milliseconds.
+/// How long the oldest answer that is awaited may take, in milliseconds.
 pub const SILENT_MS: u64 = 2_000;
+
+/// How long it may take while a long text is on its way, in milliseconds: while more than `LONG_BYTES` came of it.
+pub const LONG_MS: u64 = 10_000;
+
+/// How many bytes of an answer may come until it counts as a long text.
+pub const LONG_BYTES: u64 = 65_536;
 
 /// How long nothing may come on a connection that listens to hellos, in milliseconds.
 pub const NO_HELLO_MS: u64 = 6_000;
@@ -22,13 +28,13 @@ pub const PAUSE_MAX_MS: u64 = 500;
 pub const LASTING_MS: u64 = 2_000;
 
 /// The shortest time between two PINGs that a connection sends, in milliseconds.
-pub const PING_MIN_MS: u64 = 250;
+pub const PING_MIN_MS: u64 = 20;
 
 /// The longest time between two PINGs that a connection sends, in milliseconds.
 pub const PING_MAX_MS: u64 = 1_000;
 
 /// How many PINGs a connection sends in the time after which its node would be down, within these limits.
-pub const PINGS: u64 = 8;
+pub const PINGS: u64 = 3;
 
 /// How long it is between two INFOs that the connection asks for by itself, in milliseconds. A replica whose INFO is
 /// older than 5 s isn't promoted; and a node whose role is wrong has to say so twice, 8 s apart, before it is told
@@ -49,9 +55,16 @@ pub const KEEP_MS: u64 = 100;
 /// together, and the Sentinel is woken once for them.
 pub const REST_MS: u64 = 5;
 
-/// Delay between REPLICAOF and the INFO that checks it, in milliseconds. The order sends the node's clients away, other
-/// Sentinels among them: they have as long to listen again.
-pub const LOOK_MS: u64 = 100;
+/// Delay between REPLICAOF and the INFO that checks it once more, in milliseconds. A first INFO goes out with the
+/// order.
+pub const LOOK_MS: u64 = 20;
+
+/// For how long a connection puts out no hello after one held its other answers up, in milliseconds: its node makes
+/// writes wait, and a PUBLISH is one.
+pub const MUTE_MS: u64 = 4_000;
+
+/// For how long a connection puts out no hello at most after its node was told to hand over, in milliseconds.
+pub const SWITCH_MS: u64 = 10_000;
 
 /// For how long a replica to which a master hands over is asked to acknowledge its stream beside each INFO, in
 /// milliseconds: a master waits for that, and a replica does it once a second by itself.

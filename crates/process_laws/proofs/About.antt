@@ -18,6 +18,7 @@ use Rattle.ballot_law.specs.Ballots.{no_kept}
 use Rattle.sentinel_conf.specs.Rewritten.{IsKeptPart, IsKeptMaster}
 use Rattle.sentinel_rules.specs.Answers.{asked_of, asked_at, master_with_card}
 use Rattle.sentinel_rules.specs.Plans.{Plan, roster_of, nodes_of}
+use Rattle.sentinel_rules.specs.Profiles.{candidate_heeded}
 use Rattle.sentinel_rules.specs.States.{Core, is_master_down, is_tilted}
 use Rattle.sentinel_rules.specs.Takes.{cleared}
 use Rattle.sentinel_rules.proofs.Choices.{same_addr-equal}
@@ -66,4 +67,4 @@ asked_is plan m now addr epoch candidate (Some k) core n said leader voted a kep
 
 pub answers_are_about_it : AnswersAreAboutIt
 answers_are_about_it w now m addr epoch candidate n said leader voted good a is =
-    asked_is w.plan m (clock now) addr epoch candidate (master_with_card w.core.kept.masters addr) (cleared w.core) n said leader voted a good.core.kept refl is
+    asked_is w.plan m (clock now) addr epoch (candidate_heeded w.plan candidate) (master_with_card w.core.kept.masters addr) (cleared w.core) n said leader voted a good.core.kept refl is

@@ -25,6 +25,7 @@ use Rattle.sentinel_cell.specs.Histories.{World, IsLegal, replay}
 use Rattle.sentinel_cell.proofs.Cards.{same_plan}
 use Rattle.sentinel_rules.specs.Answers.{master_with_card}
 use Rattle.sentinel_rules.specs.Plans.{Plan}
+use Rattle.sentinel_rules.specs.Profiles.{candidate_heeded}
 use Rattle.sentinel_rules.specs.Takes.{cleared}
 use Rattle.port_sessions.proofs.Turning.{last_world}
 use Rattle.process_laws.specs.Actions.{Took, output_to, sent_by, IsHeard}
@@ -68,7 +69,7 @@ module _ (start : World) (i : ℕ) (v w : View) (left : KeptText) (plan : Plan) 
       let plan_is : world.plan ≡ start.plan = same_plan start history in
       let command_is : IsMasterDownByAddr addr epoch candidate ≡ d.command = one_command (SentinelAt i) (IsMasterDownByAddr addr epoch candidate) d.command d.delivered in
       let core = cleared world.core in
-      let a = answer_of world.plan (clock d.now) addr epoch candidate (master_with_card core.kept.masters addr) core in
+      let a = answer_of world.plan (clock d.now) addr epoch (candidate_heeded world.plan candidate) (master_with_card core.kept.masters addr) core in
       let answer = answer_body world d.now d.command in
       let body_is : answer ≡ Answer a.master addr a.down a.leader a.epoch = ap (answer_body world d.now) (sym command_is) ∙ a.is_it in
       let about : a.master ≡ m =

@@ -1,5 +1,5 @@
 -- The whole connection.
-use Rattle.std.proofs.Common.{◌≡◌, ℕ, false, List, [], ◌∷◌, ◌++◌, map, ap, sym, ◌∙◌, subst, append_assoc, Option, Some, None, Ok}
+use Rattle.std.proofs.Common.{◌≡◌, ℕ, false, List, [], ◌∷◌, ◌++◌, map, ap, sym, ◌∙◌, subst, append_assoc, Some, None, Ok}
 use Rattle.std.specs.List.{flat_map, AllByRecursion}
 use Rattle.ballot_law.specs.declared.events.Event.{Event}
 use Rattle.ballot_law.specs.declared.messages.Body.{Body}
@@ -11,6 +11,7 @@ use Rattle.resp2.specs.Framing.Frame.{Frame, simple, fault, int, bulk, null_bulk
 use Rattle.resp2.proofs.FramingLemmas.Streams.{one_spelling}
 use Rattle.sentinel_cell.specs.Histories.{World}
 use Rattle.port_sessions.specs.Talks.{Party, Responds}
+use Rattle.links.specs.declared.sessions.heard.Heard.{Heard}
 use Rattle.links.specs.declared.sessions.questions.Question.{Question}
 use Rattle.links.specs.Sessions.Links.{question_of, next_asked, listed, heard_of, Tells}
 use Rattle.resp2.specs.Long.LongValues.{told_value, IsLongFrame}
@@ -78,7 +79,7 @@ delivered start asker (a ∷ questions) p (x ∷ xs) unread not_yet_got bytes q 
     let heard_it : heard_of voter (question_of a) (told_value reply.0.value) ≡ Ok tells.2 =
     ap (λ (k : Question). heard_of voter k (told_value reply.0.value)) same_question ∙ ap (λ (f : Frame). heard_of voter tells.0 (told_value f)) reply_is.0 ∙ tells.5 in
     let event = reply.0.hears tells.2 heard_it in
-    let all : events ≡ event.0 ∷ tells.3 = tells.6 ∙ ap (λ (h : Option Event). listed h ++ tells.3) event.1 in
+    let all : events ≡ event.0 ∷ tells.3 = tells.6 ∙ ap (λ (h : Heard). listed h ++ tells.3) event.1 in
     let later = delivered start asker questions middle xs unread not_yet_got others q rs held not_yet_come tells.3 left askable.1 reply.1 question_is.1 whole.1 served.6
     reply_is.1 read.1
     (subst (λ (k : List Question). Tells voter false k rs tells.3 left) same_others tells.7) in

@@ -20,12 +20,14 @@ use Rattle.courteous_sessions.specs.Epochs.{heard}
 use Rattle.courteous_sessions.specs.Retelling.{is_null}
 use Rattle.links.specs.declared.sessions.fault.LinkFault.{LinkFault}
 use Rattle.links.specs.declared.sessions.fault.LinkFault.TheVariants.{Strange}
+use Rattle.links.specs.declared.sessions.heard.Heard.{Heard}
+use Rattle.links.specs.declared.sessions.heard.Heard.TheVariants as news
 use Rattle.links.specs.declared.sessions.questions.Question.{Question}
 use Rattle.links.specs.declared.sessions.questions.Question.TheVariants.{Order, Identity}
 use Rattle.links.specs.declared.speaking.Login.{Login}
 use Rattle.links.specs.declared.speaking.Login.TheVariants.{Without, Pass, User}
 use Rattle.links.specs.Speaking.{login_questions, id_bytes, id_questions}
-use Rattle.links.specs.Sessions.Links.{heard_of, named, Tells}
+use Rattle.links.specs.Sessions.Links.{heard_of, refused, named, listed, Tells}
 use Rattle.resp2.specs.Long.LongValues.{LongParts, told_value, told_of, IsLongFrame, whole_lines}
 use Rattle.resp2.proofs.LongLemmas.Values.{value_plain}
 use Rattle.node_texts.specs.Messages.MessageTexts.{message_bytes, body_frame, words_frame}
@@ -51,22 +53,22 @@ use Rattle.process_laws.proofs.Joining.{spelled_some, by_first}
 use Rattle.process_laws.proofs.Pieces.{questions_spelled, served_as_sent}
 use Rattle.process_laws.proofs.SharedConnections.{AreDeliveredSo, only_delivered, later_all, Whatever, Nears, IsItself, HearsSo, hears_near, served_near, delivered}
 use Rattle.process_laws.proofs.Turns.{answers, turned, no_null}
-use Rattle.process_laws.proofs.Words.{TellsNothing, order_tells, passed_over, RowIsOne, said_bytes, said_asked, said_askable, said_no_row}
+use Rattle.process_laws.proofs.Words.{TellsNothing, nothing_told, order_tells, passed_over, RowIsOne, said_bytes, said_asked, said_askable, said_no_row}
 
 -- ---- the run id that was told
 
-named_tells : (id : RunId) (found : Option RunId) (got : Option Event) → named id found ≡ Ok got → (got ≡ None) × ((other : RunId) → found ≡ Some other → same_id id other ≡ true)
+named_tells : (id : RunId) (found : Option RunId) (got : Heard) → named id found ≡ Ok got → (listed got ≡ []) × ((other : RunId) → found ≡ Some other → same_id id other ≡ true)
 named_tells id (Some other) got e = by_test (same_id id other) refl e
   where
-    by_test : (test : Bool) → same_id id other ≡ test → ◌≡◌ {A = Result (Option Event) LinkFault} (if test then Ok None else Err Strange) (Ok got)
-        → (got ≡ None) × ((one : RunId) → ◌≡◌ {A = Option RunId} (Some other) (Some one) → same_id id one ≡ true)
-    by_test true is e = (let none : got ≡ None = cc in none, λ one same. let it : same_id id one ≡ true = cc in it)
+    by_test : (test : Bool) → same_id id other ≡ test → ◌≡◌ {A = Result Heard LinkFault} (if test then Ok news.Nothing else Err Strange) (Ok got)
+        → (listed got ≡ []) × ((one : RunId) → ◌≡◌ {A = Option RunId} (Some other) (Some one) → same_id id one ≡ true)
+    by_test true is e = (nothing_told news.Nothing got e refl, λ one same. let it : same_id id one ≡ true = cc in it)
     by_test false is e = absurd (let no : ⊥ = cc in no)
 named_tells id None got e = absurd (let no : ⊥ = cc in no)
 
 identity_tells : (node : NodeName) (id : RunId) → TellsNothing node (Identity id)
 identity_tells node id (bulk text) got e = (named_tells id (run_id text) got e).0
-identity_tells node id (fault text) got e = cc
+identity_tells node id (fault text) got e = nothing_told (refused (Identity id) text) got e refl
 identity_tells node id (simple text) got e = absurd (let no : ⊥ = cc in no)
 identity_tells node id (int n) got e = absurd (let no : ⊥ = cc in no)
 identity_tells node id null_bulk got e = absurd (let no : ⊥ = cc in no)
@@ -134,7 +136,7 @@ id_replied start now g bytes h known quiet silent serves =
 pub told_whole : (text : List ℕ) → length text ≡ 40 → told_of text ≡ text
 told_whole text short = ap (λ (n : ℕ). if nat_lt 65536 n then whole_lines (take 65536 text) else text) short
 
-same_run_id : (node : NodeName) (id own : RunId) (got : Option Event) → IsRunId own → heard_of node (Identity id) (told_value (id_frame own)) ≡ Ok got → own ≡ id
+same_run_id : (node : NodeName) (id own : RunId) (got : Heard) → IsRunId own → heard_of node (Identity id) (told_value (id_frame own)) ≡ Ok got → own ≡ id
 same_run_id node id own got is e =
     let text = id_text own in
     let whole : told_of text ≡ text = told_whole text (length-id_text own) in

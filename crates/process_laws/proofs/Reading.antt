@@ -13,6 +13,8 @@ use Rattle.node_texts.specs.Messages.MessageTexts.{answer_frame, down_number}
 use Rattle.resp2.specs.Commands.{candidate, candidate_text, IsCandidate}
 use Rattle.resp2.specs.Framing.Frame.{IsPlain}
 use Rattle.resp2.proofs.Asks.{candidate_again}
+use Rattle.links.specs.declared.sessions.heard.Heard.{Heard}
+use Rattle.links.specs.declared.sessions.heard.Heard.TheVariants as news
 use Rattle.links.specs.declared.sessions.replies.Vote.{Vote}
 use Rattle.links.specs.Sessions.Links.{vote_of, answered, ask_heard, flag}
 
@@ -41,26 +43,26 @@ answer_plain true leader epoch most = let short = text_short leader in (omega ar
 answer_plain false leader epoch most = let short = text_short leader in (omega arith, (omega arith, (omega arith, (omega arith, tt))))
 
 -- what is heard for an answer is an event
-some_event : (voter : NodeName) (m : ℕ) (addr : Addr) (vote : Option Vote) (got : Option Event) → answered voter m addr vote ≡ Ok got → (event : Event) × (got ≡ Some event)
+some_event : (voter : NodeName) (m : ℕ) (addr : Addr) (vote : Option Vote) (got : Heard) → answered voter m addr vote ≡ Ok got → (event : Event) × (got ≡ news.Told event)
 some_event voter m addr (Some vote) got e = (
   Answered voter m addr vote.down vote.leader vote.epoch,
-  let h : Some (Answered voter m addr vote.down vote.leader vote.epoch) ≡
+  let h : news.Told (Answered voter m addr vote.down vote.leader vote.epoch) ≡
       got = cc in sym h,
 )
 some_event voter m addr None got e = absurd (let no : ⊥ = cc in no)
 
 -- the answer is heard as it was written
-pub answer_heard : (voter : NodeName) (m : ℕ) (addr : Addr) (down : Bool) (leader : Option RunId) (epoch : ℕ) (got : Option Event) → epoch ≤ MAX_EPOCH
+pub answer_heard : (voter : NodeName) (m : ℕ) (addr : Addr) (down : Bool) (leader : Option RunId) (epoch : ℕ) (got : Heard) → epoch ≤ MAX_EPOCH
     → ask_heard voter m addr (answer_frame down leader epoch) ≡ Ok got
-    → (event : Event) × (got ≡ Some event) × (IsCandidate leader → Answered voter m addr down leader epoch ≡ event)
+    → (event : Event) × (got ≡ news.Told event) × (IsCandidate leader → Answered voter m addr down leader epoch ≡ event)
 answer_heard voter m addr down leader epoch got most e =
     let some = some_event voter m addr (vote_of (answer_frame down leader epoch)) got e in (
       some.0,
       some.1,
       λ is.
           let vote = vote_again down leader epoch is most in
-          let told : answered voter m addr (vote_of (answer_frame down leader epoch)) ≡ Ok (Some (Answered voter m addr down leader epoch)) = ap (answered voter m addr) vote in
-          let chain : answered voter m addr (vote_of (answer_frame down leader epoch)) ≡ Ok (Some some.0) = e ∙ ap (λ (o : Option Event). Ok o) some.1 in
+          let told : answered voter m addr (vote_of (answer_frame down leader epoch)) ≡ Ok (news.Told (Answered voter m addr down leader epoch)) = ap (answered voter m addr) vote in
+          let chain : answered voter m addr (vote_of (answer_frame down leader epoch)) ≡ Ok (news.Told some.0) = e ∙ ap (λ (o : Heard). Ok o) some.1 in
           let same : Answered voter m addr down leader epoch ≡ some.0 = cc in
           same,
     )

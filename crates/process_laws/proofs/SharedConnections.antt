@@ -19,7 +19,8 @@ use Rattle.courteous_sessions.specs.Visits.{Guest, guest, Tells as TellsClient}
 use Rattle.client_commands.specs.declared.protocols.Protocol.TheVariants.{Three}
 use Rattle.courteous_sessions.specs.Retelling.{first_word, second_word, shape_of_asked, is_null, IsTold}
 use Rattle.links.specs.declared.sessions.questions.Question.{Question}
-use Rattle.links.specs.declared.sessions.questions.Question.TheVariants.{Order}
+use Rattle.links.specs.declared.sessions.heard.Heard.{Heard}
+use Rattle.links.specs.declared.sessions.questions.Question.TheVariants.{Row}
 use Rattle.links.specs.Sessions.Links.{question_of, next_asked, listed, heard_of, Tells}
 use Rattle.resp2.specs.Long.LongValues.{told_value, IsLongFrame}
 use Rattle.resp2.proofs.LongLemmas.Values.{value_plain}
@@ -44,7 +45,7 @@ use Rattle.process_laws.specs.SharedConnections.{IsNear, ServedBeside, SharedAns
 use Rattle.process_laws.proofs.OwnCommands.{IsOwnAnswer, IsCopied, own_answer}
 use Rattle.process_laws.proofs.Joining.{spelled_some, first_asked, others_asked, by_first}
 use Rattle.process_laws.proofs.Turns.{replied_to, question_spelled}
-use Rattle.process_laws.proofs.Words.{order_tells, passed_over, row_whole, row_replied, RowIsOne, said_bytes, said_asked, said_askable, said_no_row}
+use Rattle.process_laws.proofs.Words.{row_tells, passed_over, row_whole, row_replied, RowIsOne, said_bytes, said_asked, said_askable, said_no_row}
 
 -- ---- what the seat did meanwhile
 
@@ -327,7 +328,7 @@ delivered P Q R hears start asker (Says a ∷ words) g (x ∷ xs) unread not_yet
     let heard_it : heard_of voter (question_of asked) (told_value reply.0.value) ≡ Ok tells.2 =
     ap (λ (k : Question). heard_of voter k (told_value reply.0.value)) (kept.1 ∙ same_question) ∙ ap (λ (f : Frame). heard_of voter tells.0 (told_value f)) reply_is.0 ∙ tells.5 in
     let event = reply.0.hears tells.2 heard_it in
-    let all : events ≡ event.0 ∷ tells.3 = tells.6 ∙ ap (λ (e : Option Event). listed e ++ tells.3) event.1 in
+    let all : events ≡ event.0 ∷ tells.3 = tells.6 ∙ ap (λ (e : Heard). listed e ++ tells.3) event.1 in
     let known_then : is_stranger middle.asker ≡ false = ap (λ (x : Guest). is_stranger x.asker) same ∙ (later.known ∙ known) in
     let quiet_then : is_listening middle.listening ≡ false = ap (λ (x : Guest). is_listening x.listening) same ∙ (ap is_listening later.quiet ∙ quiet) in
     let silenced : middle.party.listens ≡ None = ap (λ (x : Guest). x.party.listens) same ∙ reply.1 in
@@ -362,7 +363,7 @@ delivered P Q R hears start asker (AsksRow name ∷ words) g (x ∷ xs) unread n
     let reply_bytes : spelling one.0 ++ others ≡ spelling r ++ ((flat_map spelling rs ++ held) ++ not_yet_come) =
     ap (λ (t : List ℕ). t ++ others) (sym one.1) ∙ sym served.5 ∙ put_out ∙ by_first r rs held not_yet_come in
     let reply_is = one_spelling one.0 r others ((flat_map spelling rs ++ held) ++ not_yet_come) one.2 (value_plain r read.0) reply_bytes in
-    let rest = passed_over voter Order (map question_for words) r rs events left (order_tells voter) tells in
+    let rest = passed_over voter Row (map question_for words) r rs events left (row_tells voter) tells in
     let known_then : is_stranger middle.asker ≡ false = kept.known ∙ (later.known ∙ known) in
     let quiet_then : is_listening middle.listening ≡ false = ap is_listening kept.quiet ∙ (ap is_listening later.quiet ∙ quiet) in
     let all = delivered P Q R hears start asker words middle xs unread not_yet_got others h rs held not_yet_come events left rows.1 askable.1 known_then quiet_then kept.silent

@@ -38,10 +38,13 @@ use Rattle.sentinel_cell.specs.Histories.{World, IsGood, IsLegal, IsStep, IsOutc
 use Rattle.sentinel_cell.proofs.Cards.{good_after}
 use Rattle.sentinel_rules.specs.Answers.{asked_of, asked_at, master_with_card}
 use Rattle.sentinel_rules.specs.Plans.{Plan}
+use Rattle.sentinel_rules.specs.Profiles.{candidate_heeded}
 use Rattle.sentinel_rules.specs.States.{Core, is_master_down, is_tilted}
 use Rattle.sentinel_rules.specs.Takes.{cleared}
 use Rattle.port_sessions.specs.Talks.{asked, Party, Responds, RespondsAt, Replies, TakesTurn, listens_after}
 use Rattle.port_sessions.proofs.Turning.{last_world}
+use Rattle.links.specs.declared.sessions.heard.Heard.{Heard}
+use Rattle.links.specs.declared.sessions.heard.Heard.TheVariants as news
 use Rattle.links.specs.Sessions.Links.{question_of, heard_of}
 use Rattle.resp2.specs.Long.LongValues.{told_value}
 use Rattle.process_laws.specs.Connections.{IsAskable, Fits, answer_body, port_answer, IsDelivered}
@@ -122,8 +125,8 @@ pub record Reply (start : World) (asker : NodeName) (v : View) (question : Body)
   pub spelled : bytes ≡ spelling value
   pub plain : IsPlain value
   pub some : is_null bytes ≡ false
-  pub hears : (got : Option Event) → heard_of (SentinelAt start.plan.place) (question_of question) (told_value value) ≡ Ok got
-      → (event : Event) × (got ≡ Some event) × IsDelivered start asker v question event w
+  pub hears : (got : Heard) → heard_of (SentinelAt start.plan.place) (question_of question) (told_value value) ≡ Ok got
+      → (event : Event) × (got ≡ news.Told event) × IsDelivered start asker v question event w
 
 same_frame : (f g : Frame) → IsPlain f → IsPlain g → bytes_eq (spelling f) (spelling g) ≡ true → f ≡ g
 same_frame f g one other h = (one_spelling f g [] [] one other (ap (λ (t : List ℕ). t ++ []) ((bytes_eq-Decides (spelling f) (spelling g)).0 h))).0
@@ -142,7 +145,7 @@ ask_reply : (start : World) (asker : NodeName) (now : ℕ) (v : View) (m : ℕ) 
 ask_reply start asker now v m addr epoch candidate bytes w t =
     let world = replay start (v.front ++ t.between) in
     let core = cleared world.core in
-    let a = answer_of world.plan (clock now) addr epoch candidate (master_with_card core.kept.masters addr) core in
+    let a = answer_of world.plan (clock now) addr epoch (candidate_heeded world.plan candidate) (master_with_card core.kept.masters addr) core in
     let most : a.epoch ≤ MAX_EPOCH = subst IsWritable a.is_it t.writable in
     let voter = SentinelAt start.plan.place in
     let spelled : bytes ≡ spelling (answer_frame a.down a.leader a.epoch) = t.bytes_are ∙ ap message_bytes a.is_it in
@@ -186,7 +189,7 @@ ping_reply start asker now v bytes w t =
       plain = t.writable;
       hears = λ got e. (
         event,
-        let same : got ≡ Some event = cc in same,
+        let same : got ≡ news.Told event = cc in same,
         record {
           now = now;
           command = PingCommand;

@@ -34,6 +34,7 @@ use Rattle.courteous_sessions.proofs.Keeping.{hears_all}
 use Rattle.failover_states.specs.Replicas.{told, is_due, is_next}
 use Rattle.links.specs.declared.sessions.questions.Question.TheVariants as asks
 use Rattle.links.specs.declared.speaking.Login.TheVariants.{Without}
+use Rattle.links.specs.declared.sessions.heard.Heard.TheVariants as news
 use Rattle.links.specs.Sessions.Links.{heard_of, named, answered}
 use Rattle.resp2.specs.Long.LongValues.{told_value, IsLongFrame}
 use Rattle.links.specs.Speaking.{id_bytes}
@@ -416,14 +417,14 @@ no_row epoch candidate g bytes name e = let same : 6 ≡ 3 = ap counted e in abs
 
 -- ---- what the link heard
 
-id_told : heard_of (SentinelAt 1) (asks.Identity id) (told_value (id_frame id)) ≡ Ok None
+id_told : heard_of (SentinelAt 1) (asks.Identity id) (told_value (id_frame id)) ≡ Ok news.Nothing
 id_told =
     let text = id_text id in
     let is = is_id 1 (lit< tt) in
     ap (λ (t : List ℕ). named id (run_id t)) (told_whole text (length-id_text id)) ∙ ap (named id) (run_id-id_text id is.hi is.lo)
 
 asked_told : (leader : Option RunId) (epoch : ℕ) → IsCandidate leader → epoch ≤ MAX_EPOCH
-    → heard_of (SentinelAt 1) (asks.Ask 0 (local 6379)) (told_value (answer_frame true leader epoch)) ≡ Ok (Some (Answered (SentinelAt 1) 0 (local 6379) true leader epoch))
+    → heard_of (SentinelAt 1) (asks.Ask 0 (local 6379)) (told_value (answer_frame true leader epoch)) ≡ Ok (news.Told (Answered (SentinelAt 1) 0 (local 6379) true leader epoch))
 asked_told leader epoch is most = ap (answered (SentinelAt 1) 0 (local 6379)) (vote_again true leader epoch is most)
 
 -- ---- both connections, as they were when each answer was heard
@@ -514,12 +515,12 @@ first_heard =
       tells = (
         asks.Identity id,
         asks.Ask 0 (local 6379) ∷ [],
-        None,
+        news.Nothing,
         first_event ∷ [],
         refl,
         id_told,
         refl,
-        (asks.Ask 0 (local 6379), [], Some first_event, [], refl, asked_told None 0 tt (lit≤ tt), refl, (refl, refl)),
+        (asks.Ask 0 (local 6379), [], news.Told first_event, [], refl, asked_told None 0 tt (lit≤ tt), refl, (refl, refl)),
       );
     } in
     record { within = lit< tt; asked = _; came = _; told = told; start = other_world; carried = first_carried }
@@ -585,7 +586,7 @@ module _ (before : List Action) (first : Is before named_then) (next : Is before
         tells = (
           asks.Identity id,
           asks.Ask 0 (local 6379) ∷ asks.Ask 0 (local 6379) ∷ [],
-          None,
+          news.Nothing,
           first_event ∷ next_event ∷ [],
           refl,
           id_told,
@@ -593,12 +594,12 @@ module _ (before : List Action) (first : Is before named_then) (next : Is before
           (
             asks.Ask 0 (local 6379),
             asks.Ask 0 (local 6379) ∷ [],
-            Some first_event,
+            news.Told first_event,
             next_event ∷ [],
             refl,
             asked_told None 0 tt (lit≤ tt),
             refl,
-            (asks.Ask 0 (local 6379), [], Some next_event, [], refl, asked_told (Some (id_of roster 0)) 1 voted (lit≤ tt), refl, (refl, refl)),
+            (asks.Ask 0 (local 6379), [], news.Told next_event, [], refl, asked_told (Some (id_of roster 0)) 1 voted (lit≤ tt), refl, (refl, refl)),
           ),
         );
       } in

@@ -85,7 +85,7 @@ taken_one told entry (e ∷ history) all there =
     ⊎_elim (λ (same : e ≡ entry). subst (λ (x : Entry). MayBeTaken told x.input.event) same all.0)
     (λ (rest : Among entry history). taken_one told entry history all.1 rest) there
 
-all_at : (P : Action → Type 0) (before : List Action) (d : Action) (later : List Action) → AllByRecursion P (before ++ d ∷ later) → P d
+pub all_at : (P : Action → Type 0) (before : List Action) (d : Action) (later : List Action) → AllByRecursion P (before ++ d ∷ later) → P d
 all_at P [] d later all = all.0
 all_at P (b ∷ before) d later all = all_at P before d later all.1
 

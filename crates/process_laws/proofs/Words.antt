@@ -1,5 +1,5 @@
 -- What goes over a connection besides messages: the question for a row is answered by one value, which tells nothing.
-use Rattle.std.proofs.Common.{◌≡◌, ◌≢◌, ℕ, false, List, [], ◌∷◌, ◌++◌, map, refl, ap, sym, ◌∙◌, subst, arith, append_assoc, Option, Some, None, Ok}
+use Rattle.std.proofs.Common.{◌≡◌, ◌≢◌, ℕ, false, List, [], ◌∷◌, ◌++◌, map, refl, ap, sym, ◌∙◌, subst, arith, append_assoc, Option, Some, None, Result, Ok}
 use Rattle.std.specs.Prelude.{codes}
 use Rattle.std.specs.List.{flat_map, AllByRecursion}
 use Rattle.ballot_law.specs.declared.commands.Command.TheVariants.{Master, Subscribe}
@@ -14,14 +14,17 @@ use Rattle.courteous_sessions.specs.Epochs.{heard}
 use Rattle.courteous_sessions.specs.Visits.{Guest, Tells as TellsClient}
 use Rattle.courteous_sessions.proofs.Keeping.{own_as_before, own_in_three}
 use Rattle.links.specs.declared.sessions.questions.Question.{Question}
-use Rattle.links.specs.declared.sessions.questions.Question.TheVariants.{Order}
-use Rattle.links.specs.Sessions.Links.{question_of, listed, heard_of, Tells}
+use Rattle.links.specs.declared.sessions.fault.LinkFault.{LinkFault}
+use Rattle.links.specs.declared.sessions.heard.Heard.{Heard}
+use Rattle.links.specs.declared.sessions.heard.Row.{Row as Numbers}
+use Rattle.links.specs.declared.sessions.questions.Question.TheVariants.{Order, Row}
+use Rattle.links.specs.Sessions.Links.{question_of, list_of, listed, plain_heard, row_in, told_row, row_heard, heard_of, Tells}
 use Rattle.resp2.specs.Long.LongValues.{told_value}
 use Rattle.node_texts.specs.Messages.MessageTexts.{message_bytes}
 use Rattle.port_sessions.specs.Talks.{Party, party, Responds}
 use Rattle.pubsub.specs.Listening.{is_listening}
 use Rattle.resp2.specs.Commands.{command_of}
-use Rattle.resp2.specs.Framing.Frame.{Frame, IsFrame}
+use Rattle.resp2.specs.Framing.Frame.{Frame, IsFrame, simple, fault, int, bulk, null_bulk, items, null_items}
 use Rattle.resp2.proofs.AskFrames.{short_array}
 use Rattle.resp2.proofs.Switches.{known_too}
 use Rattle.sentinel_cell.specs.declared.entry.Entry.{Entry}
@@ -35,14 +38,42 @@ use Rattle.process_laws.proofs.Turns.{answers, turned}
 -- ---- a question whose answer tells nothing
 
 abbrev pub TellsNothing : NodeName → Question → Type 0
-TellsNothing node k = (f : Frame) (got : Option Event) → heard_of node k f ≡ Ok got → got ≡ None
+TellsNothing node k = (f : Frame) (got : Heard) → heard_of node k f ≡ Ok got → listed got ≡ []
+
+pub nothing_told : (heard got : Heard) → ◌≡◌ {A = Result Heard LinkFault} (Ok heard) (Ok got) → listed heard ≡ [] → listed got ≡ []
+nothing_told heard got e none = let is : heard ≡ got = cc in ap listed (sym is) ∙ none
+
+plain_tells : (k : Question) (f : Frame) → listed (plain_heard k f) ≡ []
+plain_tells k (simple text) = refl
+plain_tells k (fault text) = refl
+plain_tells k (int n) = refl
+plain_tells k (bulk text) = refl
+plain_tells k null_bulk = refl
+plain_tells k (items fs) = refl
+plain_tells k null_items = refl
 
 pub order_tells : (node : NodeName) → TellsNothing node Order
-order_tells node f got e = cc
+order_tells node f got e = nothing_told (plain_heard Order f) got e (plain_tells Order f)
+
+told_row_tells : (row : Option Numbers) → listed (told_row row) ≡ []
+told_row_tells None = refl
+told_row_tells (Some row) = refl
+
+row_none : (f : Frame) → listed (row_heard f) ≡ []
+row_none (simple text) = refl
+row_none (fault text) = refl
+row_none (int n) = refl
+row_none (bulk text) = refl
+row_none null_bulk = refl
+row_none (items fs) = told_row_tells (row_in (list_of fs))
+row_none null_items = refl
+
+pub row_tells : (node : NodeName) → TellsNothing node Row
+row_tells node f got e = nothing_told (row_heard f) got e (row_none f)
 
 -- the other values tell all that is told
 pub record TellsRest (node : NodeName) (k : Question) (asked : List Question) (r : Frame) (rs : List Frame) (events : List Event) (left : List Question) : Type 0 where
-  pub got : Option Event
+  pub got : Heard
   pub heard : heard_of node k (told_value r) ≡ Ok got
   pub tells : Tells node false asked rs events left
 
@@ -52,8 +83,8 @@ passed_over node k asked r rs events left nothing tells =
     let same_question : k ≡ tells.0 = first_asked k tells.0 asked tells.1 tells.4 in
     let same_others : tells.1 ≡ asked = others_asked k tells.0 asked tells.1 tells.4 in
     let heard : heard_of node k (told_value r) ≡ Ok tells.2 = ap (λ (q : Question). heard_of node q (told_value r)) same_question ∙ tells.5 in
-    let none : tells.2 ≡ None = nothing (told_value r) tells.2 heard in
-    let all : events ≡ tells.3 = tells.6 ∙ ap (λ (o : Option Event). listed o ++ tells.3) none in
+    let none : listed tells.2 ≡ [] = nothing (told_value r) tells.2 heard in
+    let all : events ≡ tells.3 = tells.6 ∙ ap (λ (l : List Event). l ++ tells.3) none in
     let rest : Tells node false asked rs tells.3 left = subst (λ (l : List Question). Tells node false l rs tells.3 left) same_others tells.7 in
     record { got = tells.2; heard = heard; tells = subst (λ (l : List Event). Tells node false asked rs l left) (sym all) rest }
 

@@ -17,7 +17,7 @@ use Rattle.ballot_law.specs.Worlds.{World as Group, IsFree}
 use Rattle.client_commands.specs.Courtesies.{is_stranger}
 use Rattle.courteous_sessions.specs.Visits.{Guest, Tells as TellsClient}
 use Rattle.links.specs.declared.sessions.questions.Question.{Question}
-use Rattle.links.specs.declared.sessions.questions.Question.TheVariants.{Order}
+use Rattle.links.specs.declared.sessions.questions.Question.TheVariants.{Row}
 use Rattle.links.specs.declared.speaking.Login.{Login}
 use Rattle.links.specs.Sessions.Links.{question_of, Tells as LinkTells}
 use Rattle.resp2.specs.Long.LongValues.{LongParts}
@@ -107,7 +107,7 @@ bytes_of (AsksRow name) = row_bytes name
 
 abbrev pub question_for : LinkWord → Question
 question_for (Says body) = question_of body
-question_for (AsksRow name) = Order
+question_for (AsksRow name) = Row
 
 -- a Sentinel asks another one this
 abbrev pub IsAskableWord : LinkWord → Type 0

@@ -6,9 +6,9 @@ use crate::given::{addr, id, joined, number, number_32, text};
 use crate::told::{Told, Unplayed};
 use ballot_law::{Member, Name, Text};
 use conf_check::{
-    Change, ChangeFault, Directives, ID_BYTES, MasterSetting, MendFault, NamedConf, NewSetting,
-    Replacement, ReplicaOf, Report, add_notes, add_sides, add_warnings, add_watch_warnings,
-    are_one_group, changed_texts, id_line, mended_texts,
+    Change, ChangeFault, Directives, ID_BYTES, MasterSetting, MendFault, NamedConf, NewMaster,
+    NewSetting, Replacement, ReplicaOf, Report, add_notes, add_sides, add_warnings,
+    add_watch_warnings, are_one_group, changed_texts, id_line, mended_texts,
 };
 use std::alloc::Global;
 use tokens::ip_of;
@@ -130,8 +130,22 @@ fn setting(word: &[u8]) -> Result<MasterSetting, Unplayed> {
 }
 
 /// The change of this kind with these words.
-fn change(kind: &[u8], one: &[u8], two: &[u8], three: &[u8]) -> Result<Change, Unplayed> {
+fn change(
+    alloc: Global,
+    kind: &[u8],
+    one: &[u8],
+    two: &[u8],
+    three: &[u8],
+) -> Result<Change, Unplayed> {
     match kind {
+        b"AddMaster" => Ok(Change::AddMaster(NewMaster {
+            name: name(one)?,
+            nodes: vec![in alloc; addr(two)?]?,
+            quorum: number_32(three)?,
+            down_after_ms: 5_000,
+            password: Vec::new(alloc),
+        })),
+        b"RemoveMaster" => Ok(Change::RemoveMaster(name(one)?)),
         b"AddReplica" => Ok(Change::AddReplica(replica(one, two)?)),
         b"RemoveReplica" => Ok(Change::RemoveReplica(replica(one, two)?)),
         b"AddSentinel" => Ok(Change::AddSentinel(Member {
@@ -158,7 +172,7 @@ fn tell_changed(alloc: Global, words: &[Vec<u8>], told: &mut Told) -> Result<(),
     let [kind, one, two, three, files @ ..] = words else {
         return Err(Unplayed::WrongWords);
     };
-    let change = change(kind, one, two, three)?;
+    let change = change(alloc, kind, one, two, three)?;
     let files = files_of(alloc, files)?;
     match changed_texts(alloc, files.as_slice(), &change) {
         Ok(texts) => {

@@ -33,6 +33,7 @@ fn client(
         patterns: 0,
         place,
         gone: false,
+        kept: false,
     })
 }
 
@@ -80,6 +81,15 @@ fn asker(alloc: Global, name: &[u8], listens: bool) -> Result<ClientInfo, Unplay
         current: None,
         port: port(alloc)?,
     })
+}
+
+/// The connection with no name at a port whose last client has a seat that is kept for another Sentinel.
+fn beside_a_sentinel(alloc: Global) -> Result<ClientInfo, Unplayed> {
+    let mut asker = asker(alloc, b"", false)?;
+    if let Some(client) = asker.port.clients.get_mut(2) {
+        client.kept = true;
+    }
+    Ok(asker)
 }
 
 /// The connection with no name of whose client the password `secret` is wanted; whether the client gave it.
@@ -309,6 +319,12 @@ pub(crate) fn play(
         ("ask_listening", words) => tell(alloc, &mut asker(alloc, b"", true)?, words, told),
         ("ask_locked", words) => tell(alloc, &mut locked(alloc, false)?, words, told),
         ("ask_admitted", words) => tell(alloc, &mut locked(alloc, true)?, words, told),
+        ("ask_beside_a_sentinel", words) => tell(
+            alloc,
+            &mut beside_a_sentinel(alloc)?,
+            words,
+            told,
+        ),
         ("ask_as", [name, words @ ..]) => tell(alloc, &mut asker(alloc, name, false)?, words, told),
         ("info", [section, words @ ..]) => tell_info(alloc, section, words, told),
         ("ask_each", lines) => tell_each(alloc, lines, told),

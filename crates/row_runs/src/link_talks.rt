@@ -3,7 +3,7 @@
 use crate::events::node;
 use crate::message_rows::{message, tell_event};
 use crate::told::{Told, Unplayed};
-use links::{LinkFault, LinkSession};
+use links::{Heard, LinkFault, LinkSession};
 use std::alloc::Global;
 
 /// Takes a refused growth as such, and tells another fault.
@@ -44,6 +44,28 @@ fn ask(
     }
 }
 
+/// Tells what a reply is: an error before the event that it tells.
+fn tell_heard(alloc: Global, heard: &Heard, told: &mut Told) -> Result<(), Unplayed> {
+    match heard {
+        Heard::Told(event) => tell_event(alloc, event, told),
+        Heard::Refused(refusal) => {
+            told.word("Error")?;
+            told.bytes(refusal.text.as_slice())?;
+            match &refusal.event {
+                Some(event) => tell_event(alloc, event, told),
+                None => Ok(()),
+            }
+        }
+        Heard::Row(row) => {
+            told.word("Row")?;
+            told.shown(&row.replicas)?;
+            told.shown(&row.others)?;
+            told.shown(&row.quorum)
+        }
+        Heard::Nothing => Ok(()),
+    }
+}
+
 /// Tells what these pieces say, one after another, each fault, and whether an answer is awaited.
 fn hear(
     alloc: Global,
@@ -52,12 +74,12 @@ fn hear(
     told: &mut Told,
 ) -> Result<(), Unplayed> {
     for piece in pieces {
-        let mut events = Vec::new(alloc);
-        let heard = session.received(piece, &mut events);
-        for event in &events {
-            tell_event(alloc, event, told)?;
+        let mut heard = Vec::new(alloc);
+        let received = session.received(piece, &mut heard);
+        for one in &heard {
+            tell_heard(alloc, one, told)?;
         }
-        if let Err(fault) = heard {
+        if let Err(fault) = received {
             tell_fault(fault, told)?;
         }
     }

@@ -1,7 +1,7 @@
 //! What a Sentinel's rules noted, in words.
 
 use crate::told::{Told, Unplayed};
-use sentinel_state::{MasterNotice, MasterThen, Notice, ReplicaNotice};
+use sentinel_state::{MasterNotice, MasterThen, Notice, ReplicaNotice, Unfit};
 
 /// The word of what happened to a master.
 fn master_word(what: MasterNotice) -> &'static str {
@@ -13,6 +13,8 @@ fn master_word(what: MasterNotice) -> &'static str {
         MasterNotice::Begun => "Begun",
         MasterNotice::Elected => "Elected",
         MasterNotice::NotElected => "NotElected",
+        MasterNotice::Back => "Back",
+        MasterNotice::Late => "Late",
         MasterNotice::NoReplica => "NoReplica",
         MasterNotice::NotPromoted => "NotPromoted",
         MasterNotice::Ended => "Ended",
@@ -21,6 +23,19 @@ fn master_word(what: MasterNotice) -> &'static str {
         MasterNotice::AllDown => "AllDown",
         MasterNotice::PutOff { .. } => "PutOff",
         MasterNotice::NoEpochLeft => "NoEpochLeft",
+        MasterNotice::Short { .. } => "Short",
+    }
+}
+
+/// The word of why a replica can't be promoted.
+fn unfit_word(why: Unfit) -> &'static str {
+    match why {
+        Unfit::Down => "UnfitDown",
+        Unfit::Lost => "UnfitLost",
+        Unfit::NoPriority => "UnfitNoPriority",
+        Unfit::GivenUp => "UnfitGivenUp",
+        Unfit::Silent => "UnfitSilent",
+        Unfit::LinkDown(_) => "UnfitLinkDown",
     }
 }
 
@@ -34,6 +49,8 @@ fn replica_word(what: ReplicaNotice) -> &'static str {
         ReplicaNotice::Ordered => "Ordered",
         ReplicaNotice::Converted => "Converted",
         ReplicaNotice::Corrected => "Corrected",
+        ReplicaNotice::GivenUp => "GivenUp",
+        ReplicaNotice::Unfit(why) => unfit_word(why),
     }
 }
 
@@ -50,6 +67,16 @@ fn tell_master(of: MasterThen, what: MasterNotice, told: &mut Told) -> Result<()
         told.number(left)?;
         told.number(timeout)?;
     }
+    if let MasterNotice::Short {
+        up,
+        of: count,
+        need,
+    } = what
+    {
+        told.number(u64::from(up))?;
+        told.number(u64::from(count))?;
+        told.number(u64::from(need))?;
+    }
     tell_then(of, told)
 }
 
@@ -65,6 +92,10 @@ pub(crate) fn tell_notice(notice: Notice, told: &mut Told) -> Result<(), Unplaye
             told.word("Voted")?;
             told.maybe_id(Some(leader))?;
             told.number(epoch)
+        }
+        Notice::Ghost(id) => {
+            told.word("Ghost")?;
+            told.maybe_id(Some(id))
         }
         Notice::OfMaster { of, what } => tell_master(of, what, told),
         Notice::OfReplica { of, place, what } => {

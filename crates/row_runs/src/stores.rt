@@ -148,6 +148,41 @@ fn tell_mode(rt: &HostRuntime, path: &[u8], mode: &[u8], told: &mut Told) -> Res
     }
 }
 
+/// Puts a file of this text, which all may read and write, in the place of one.
+fn put_there(rt: &HostRuntime, path: &str, text: &[u8]) -> io::Result<()> {
+    fs::remove_file(rt, path)?;
+    fs::write(rt, path, text)?;
+    fs::set_permissions(rt, path, Permissions::from_mode(0o666))
+}
+
+/// Puts a text in the file at a path, which isn't there yet, and somebody else another one; then the first one again.
+/// Tells each time whether the file was edited, and in between what it has then; and the mode of the file that is left.
+fn tell_edited(
+    rt: &HostRuntime,
+    path: &[u8],
+    own: &[u8],
+    other: &[u8],
+    told: &mut Told,
+) -> Result<(), Unplayed> {
+    let mut store = store_at(rt, path)?;
+    replace(&mut store, own, told)?;
+    told.yes(store.is_edited())?;
+    if put_there(rt, text(path)?, other).is_err() {
+        return Err(Unplayed::NoSuchFile);
+    }
+    told.yes(store.is_edited())?;
+    match store.edited_text() {
+        Some(text) => told.bytes(text.as_slice())?,
+        None => told.word("none")?,
+    }
+    replace(&mut store, own, told)?;
+    told.yes(store.is_edited())?;
+    match mode_of(rt, text(path)?) {
+        Ok(mode) => told.word(format!(in rt.alloc(); "{mode:o}")?.as_str()),
+        Err(_) => Err(Unplayed::NoSuchFile),
+    }
+}
+
 /// Tells what comes of a call with these words.
 pub(crate) fn play(
     rt: &HostRuntime,
@@ -166,6 +201,7 @@ pub(crate) fn play(
         }
         ("replaced", [old, new]) => tell_put(alloc, old, new, told),
         ("file_store", [path, texts @ ..]) => tell_file(rt, path, texts, told),
+        ("file_edited", [path, own, other]) => tell_edited(rt, path, own, other, told),
         ("mode_after_a_store", [path, mode]) => tell_mode(rt, path, mode, told),
         _ => Err(Unplayed::NoSuchCall),
     }

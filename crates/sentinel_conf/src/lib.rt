@@ -40,7 +40,8 @@ pub use meaning::own_addr;
 pub use read_line::{ReadLine, read_lines};
 pub use settings::{DEFAULT_SETTINGS, Settings, law_defaults};
 pub use store::{
-    ConfStore, FileFault, FileStep, FileStore, FileText, LoadFault, MemoryStore, StoreRefused,
+    ConfStore, FileFault, FileStep, FileStore, FileText, LoadFault, LocksAlone, MemoryStore,
+    StoreRefused, give_access_of,
 };
 pub use watch::{
     Bind, BindWord, Binds, CLIENTS_MAX, Directives, EVERYWHERE, IDLE_SECONDS, IDLE_SECONDS_MAX,

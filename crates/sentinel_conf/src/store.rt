@@ -5,8 +5,10 @@
 mod conf_store;
 mod file_fault;
 mod file_store;
+mod own_file;
 
 pub use ballot_law::Text as FileText;
 pub use conf_store::{ConfStore, LoadFault, MemoryStore, StoreRefused};
 pub use file_fault::{FileFault, FileStep};
 pub use file_store::FileStore;
+pub use own_file::{LocksAlone, give_access_of};

@@ -16,6 +16,7 @@ mod known;
 mod replies;
 mod rows;
 mod ticks;
+mod unfit;
 
 pub use commands::{answer_by_text, answer_plainly, answer_switch};
 pub use hellos::take_hello;

@@ -47,13 +47,14 @@ struct Node {
     master: Addr,
 }
 
-/// The data nodes of the first file that the second one doesn't name.
+/// The data nodes of the first file that the second one doesn't name, though it names their master.
 fn nodes_beside(alloc: Global, of: &Conf, other: &Conf) -> Result<Vec<Node>, AllocError> {
     let mut nodes = Vec::new(alloc);
     let masters = of.kept().masters.as_slice();
     for (watched, kept) in of.roster().masters().iter().zip(masters.iter()) {
+        let stays = other.roster().master_named(&watched.name).is_some();
         for addr in watched.nodes() {
-            if other.roster().master_at(*addr).is_none() {
+            if stays && other.roster().master_at(*addr).is_none() {
                 nodes.push(Node {
                     addr: *addr,
                     name: watched.name,
@@ -242,6 +243,33 @@ follows."
         self.step("Go on with the next one. The others guard meanwhile: 0 s without a guard.")
     }
 
+    /// Adds what is to be seen of a master that comes.
+    fn begin_master(&mut self, change: &Change) -> Result<(), AllocError> {
+        let Change::AddMaster(new) = change else {
+            return Ok(());
+        };
+        let Some((master, _)) = new.nodes.as_slice().split_first() else {
+            return Ok(());
+        };
+        self.step_at(
+            "See that ",
+            *master,
+            " is a master, and that each of its replicas follows it (`ROLE`).",
+        )
+    }
+
+    /// Adds what becomes of a master that goes.
+    fn end_master(&mut self, change: &Change) -> Result<(), AllocError> {
+        let Change::RemoveMaster(name) = change else {
+            return Ok(());
+        };
+        let name = name_text(name);
+        let words = format!(in self.alloc;
+            "The servers of master {name} go on, and nobody guards them any more."
+        )?;
+        self.step(words.as_str())
+    }
+
     /// Adds what is done with the file of a Sentinel that goes.
     fn end_sentinel(&mut self, gone: Option<Member>) -> Result<(), AllocError> {
         match gone {
@@ -269,6 +297,7 @@ follows."
             Order::AllMended => WHY_MENDED,
             Order::OneByOne => WHY_EACH,
         })?;
+        self.begin_master(change)?;
         self.start_nodes(&come)?;
         match order {
             Order::OneByOne => {
@@ -279,6 +308,7 @@ follows."
         }
         self.promote_nodes(&come)?;
         self.end_nodes(&gone)?;
+        self.end_master(change)?;
         self.end_sentinel(gone_of(old, new))
     }
 }

@@ -1,10 +1,12 @@
 //! The words of `change`, and the change that they ask for.
 
-use crate::command_line::REFUSED_WORDS;
-use crate::new_groups::{NAMES, Named, address_of, random_id, refuse_word};
+use crate::command_line::{REFUSED_WORDS, new_master_words};
+use crate::new_groups::{
+    NAMES, Named, address_of, master_of as added, new_master, random_id, refuse_shared, refuse_word,
+};
 use ballot_law::{Member, Name, RunId};
 use clap::{Arg, ArgAction, ArgMatches, Command};
-use conf_check::{Change, MasterSetting, NewSetting, Replacement, ReplicaOf};
+use conf_check::{Change, MasterSetting, NewMaster, NewSetting, Replacement, ReplicaOf};
 use sentinel_conf::Conf;
 use std::alloc::{AllocError, Global};
 use std::process::ExitCode;
@@ -20,6 +22,8 @@ const VALUE_MAX: u64 = 4_294_967_295;
 
 /// The words that name a change.
 const CHANGES: &[&str] = &[
+    "add-master",
+    "remove-master",
     "add-replica",
     "remove-replica",
     "add-sentinel",
@@ -27,6 +31,13 @@ const CHANGES: &[&str] = &[
     "replace-host",
     "set",
 ];
+
+/// The words that say more of a master that is added.
+const OF_NEW_MASTER: &[&str] = &["replica", "quorum", "down-after", "auth-pass-file"];
+
+/// What to say where these go with another change.
+const NO_NEW_MASTER: &str =
+    "NoNewMaster: --replica, --quorum, --down-after and --auth-pass-file go with --add-master";
 
 /// What a word says that is more than one of them.
 const MANY: &str = "ManyChanges: name one change: each has steps of its own";
@@ -71,6 +82,27 @@ fn node_words<'a>(alloc: Global, command: Command<'a>) -> Result<Command<'a>, Al
         ))
 }
 
+/// The words that name a change of a master.
+fn master_words<'a>(alloc: Global, command: Command<'a>) -> Result<Command<'a>, AllocError> {
+    let add = Arg::new(alloc, "add-master")
+        .long("add-master")
+        .num_args(2)
+        .value_names(&["name", "ip:port"])
+        .help("Adds a master that all Sentinels watch");
+    let replica = Arg::new(alloc, "replica")
+        .long("replica")
+        .num_args(1..)
+        .action(ArgAction::Append)
+        .value_name("ip:port")
+        .help("The address of each replica of a master that is added");
+    let remove = Arg::new(alloc, "remove-master")
+        .long("remove-master")
+        .value_name("name")
+        .help("Removes a master, which nobody watches then");
+    let command = command.arg(add)?.arg(replica)?;
+    new_master_words(alloc, command)?.arg(remove)
+}
+
 /// The words of `change`.
 pub(crate) fn change_command<'a>(alloc: Global) -> Result<Command<'a>, AllocError> {
     let folder = Arg::new(alloc, "folder").required(true).help(
@@ -100,13 +132,19 @@ pub(crate) fn change_command<'a>(alloc: Global) -> Result<Command<'a>, AllocErro
         .arg(folder)?
         .arg(files)?
         .arg(master)?;
-    node_words(alloc, command)?.arg(host)?.arg(set)
+    let command = node_words(alloc, command)?.arg(host)?.arg(set)?;
+    master_words(alloc, command)
 }
 
 /// Refuses words that name no change, or more than one.
 fn refuse_count(rt: HostRuntime, said: &str) -> ExitCode {
     let _ = eprintln!(rt; "sentinel_group: {said}");
     ExitCode::from(REFUSED_WORDS)
+}
+
+/// Whether the words say more of a master that is added.
+fn says_more(words: &ArgMatches) -> bool {
+    OF_NEW_MASTER.iter().any(|long| words.contains_id(long))
 }
 
 /// Which of the changes the words name.
@@ -121,6 +159,9 @@ fn named_change(rt: HostRuntime, words: &ArgMatches) -> Result<&'static str, Exi
         }
     }
     match found {
+        Some(long) if long != "add-master" && says_more(words) => {
+            Err(refuse_count(rt, NO_NEW_MASTER))
+        }
         Some(long) => Ok(long),
         None => Err(refuse_count(rt, NONE)),
     }
@@ -129,10 +170,7 @@ fn named_change(rt: HostRuntime, words: &ArgMatches) -> Result<&'static str, Exi
 /// The master that is changed: the one that the words name, or the only one of the files.
 fn master_of(rt: HostRuntime, words: &ArgMatches, conf: &Conf) -> Result<Name, ExitCode> {
     if let Some(word) = words.get_str("master") {
-        return match Name::from_slice(word.as_bytes()) {
-            Some(name) => Ok(name),
-            None => Err(refuse_word(rt, "BadName", word, NAMES)),
-        };
+        return name_of(rt, word);
     }
     match conf.roster().masters() {
         [master] => Ok(master.name),
@@ -199,6 +237,39 @@ fn value_of(rt: HostRuntime, word: &str) -> Result<u32, ExitCode> {
     }
 }
 
+/// The name of a master that the word spells.
+fn name_of(rt: HostRuntime, word: &str) -> Result<Name, ExitCode> {
+    match Name::from_slice(word.as_bytes()) {
+        Some(name) => Ok(name),
+        None => Err(refuse_word(rt, "BadName", word, NAMES)),
+    }
+}
+
+/// The master that the words add to the group of this file.
+fn added_master(rt: HostRuntime, words: &ArgMatches, conf: &Conf) -> Result<NewMaster, ExitCode> {
+    let (name, nodes) = added(rt, words, "add-master")?;
+    refuse_shared(rt, nodes.as_slice(), &[])?;
+    new_master(rt, words, (name, nodes), conf.roster().sentinels().len())
+}
+
+/// The setting that the words set, of a master of this file.
+fn new_setting(
+    rt: HostRuntime,
+    words: &ArgMatches,
+    conf: &Conf,
+    directive: &str,
+    value: &str,
+) -> Result<NewSetting, ExitCode> {
+    let setting = setting_of(rt, directive)?;
+    let value = value_of(rt, value)?;
+    let master = master_of(rt, words, conf)?;
+    Ok(NewSetting {
+        master,
+        setting,
+        value,
+    })
+}
+
 /// The replica at the address that the word spells.
 fn replica_of(
     rt: HostRuntime,
@@ -220,6 +291,8 @@ pub(crate) fn change_of(
     let long = named_change(rt, words)?;
     let values = words.get_strs(long).unwrap_or(&[]);
     match (long, values) {
+        ("add-master", _) => Ok(Change::AddMaster(added_master(rt, words, conf)?)),
+        ("remove-master", [name]) => Ok(Change::RemoveMaster(name_of(rt, name)?)),
         ("add-replica", [at]) => Ok(Change::AddReplica(replica_of(rt, words, conf, at)?)),
         ("remove-replica", [at]) => Ok(Change::RemoveReplica(replica_of(rt, words, conf, at)?)),
         ("add-sentinel", [at]) => {
@@ -233,16 +306,9 @@ pub(crate) fn change_of(
             let id = random_id(rt)?;
             Ok(Change::ReplaceHost(Replacement { old, new, id }))
         }
-        ("set", [directive, value]) => {
-            let setting = setting_of(rt, directive)?;
-            let value = value_of(rt, value)?;
-            let master = master_of(rt, words, conf)?;
-            Ok(Change::Set(NewSetting {
-                master,
-                setting,
-                value,
-            }))
-        }
+        ("set", [directive, value]) => Ok(Change::Set(new_setting(
+            rt, words, conf, directive, value,
+        )?)),
         (long, _) => Err(refuse_word(rt, "WrongWords", long, "sentinel_group change --help")),
     }
 }

@@ -5,13 +5,14 @@ use crate::change_steps::{Steps, address_text};
 use crate::change_words::change_of;
 use crate::checking::confs_of;
 use crate::command_line::REFUSED_WORDS;
-use crate::failures::{fail, fail_group, refuse_file};
+use crate::failures::{fail, fail_group};
 use crate::new_folders::{NewFile, write_folder};
 use crate::new_groups::{file_name, refuse_folder, want_memory};
+use crate::new_texts::{read_texts, refuse_unreached};
 use ballot_law::{Member, Text};
 use clap::ArgMatches;
 use conf_check::{Change, ChangeFault, NamedConf, changed_texts};
-use sentinel_conf::{Conf, WatchKind, lacks_announce_ip, read};
+use sentinel_conf::Conf;
 use sentinel_core::ServeFault;
 use sentinel_runner::GroupFault;
 use std::io::Write;
@@ -23,6 +24,8 @@ const REFUSED_FILES: u8 = 3;
 /// What a fault means, and what to do, where the words are refused; None where the files are, or memory was.
 fn meaning_of(fault: ChangeFault) -> Option<&'static str> {
     match fault {
+        ChangeFault::SameName => Some("the files name a master of this name already"),
+        ChangeFault::LastMaster => Some("it is the last master"),
         ChangeFault::NoSuchMaster => Some("the files name no master of this name"),
         ChangeFault::NoSuchReplica => Some("the files name no replica of the master there"),
         ChangeFault::NoSuchSentinel => Some("no file names a Sentinel with this run id"),
@@ -64,20 +67,6 @@ fn refuse_change(rt: HostRuntime, fault: ChangeFault) -> ExitCode {
             ExitCode::from(REFUSED_FILES)
         }
     }
-}
-
-/// What the new texts say.
-fn read_texts(rt: HostRuntime, texts: &[Text]) -> Result<Vec<Conf>, ExitCode> {
-    let mut confs = Vec::new(rt.alloc());
-    for text in texts {
-        let Ok(conf) = read(rt.alloc(), text.as_slice()) else {
-            return Err(want_memory(rt));
-        };
-        if confs.push(conf).is_err() {
-            return Err(want_memory(rt));
-        }
-    }
-    Ok(confs)
 }
 
 /// The Sentinel of a file.
@@ -129,17 +118,6 @@ fn new_files<'a>(
         }
     }
     Ok(news)
-}
-
-/// Refuses new files of which others know a Sentinel by an ip of the loopback.
-fn refuse_unreached(rt: HostRuntime, news: &[NewFile<'_>], confs: &[Conf]) -> Result<(), ExitCode> {
-    for (new, conf) in news.iter().zip(confs.iter()) {
-        if lacks_announce_ip(conf) {
-            let path = new.model.unwrap_or(new.name.as_str());
-            return Err(refuse_file(&rt, path, 0, WatchKind::NoAnnounceIp));
-        }
-    }
-    Ok(())
 }
 
 /// Adds which new file is whose.

@@ -5,7 +5,7 @@ use crate::failures::{fail, fail_group, refuse_conf, refuse_file};
 use crate::group_files::text_at;
 use crate::mending::mend;
 use crate::redis_text::write_for_redis;
-use crate::telling::{tell_faults, tell_file, tell_files};
+use crate::telling::{tell_faults, tell_file, tell_files, tell_foreign_ip};
 use crate::watching::refuse_watch;
 use clap::ArgMatches;
 use conf_check::{NamedConf, Report};
@@ -116,6 +116,7 @@ fn tell_one(rt: HostRuntime, path: &str) -> Result<(), ExitCode> {
     };
     write_report(rt, &report)?;
     tell_file(rt, &file);
+    tell_foreign_ip(rt, &file);
     Ok(())
 }
 

@@ -86,11 +86,11 @@ fn new_group_addresses<'a>(alloc: Global, group: Command<'a>) -> Result<Command<
     group.arg(master)?.arg(replica)?.arg(sentinel)
 }
 
-/// The words of `new-group`.
-fn new_group<'a>(alloc: Global) -> Result<Command<'a>, AllocError> {
-    let folder = Arg::new(alloc, "folder").required(true).help(
-        "The folder for the files, which is made; one that is there has to be empty",
-    );
+/// The words that say more of a new master.
+pub(crate) fn new_master_words<'a>(
+    alloc: Global,
+    command: Command<'a>,
+) -> Result<Command<'a>, AllocError> {
     let quorum = Arg::new(alloc, "quorum")
         .long("quorum")
         .value_name("number")
@@ -109,13 +109,18 @@ fn new_group<'a>(alloc: Global) -> Result<Command<'a>, AllocError> {
         .long("auth-pass-file")
         .value_name("file")
         .help("The file with the password of the data nodes, a line");
+    command.arg(quorum)?.arg(down_after)?.arg(password)
+}
+
+/// The words of `new-group`.
+fn new_group<'a>(alloc: Global) -> Result<Command<'a>, AllocError> {
+    let folder = Arg::new(alloc, "folder").required(true).help(
+        "The folder for the files, which is made; one that is there has to be empty",
+    );
     let group = Command::new(alloc, "new-group")
         .about("Writes the sentinel.conf of each Sentinel of a new group, with new run ids")
         .arg(folder)?;
-    new_group_addresses(alloc, group)?
-        .arg(quorum)?
-        .arg(down_after)?
-        .arg(password)
+    new_master_words(alloc, new_group_addresses(alloc, group)?)
 }
 
 /// How many threads serve a port.

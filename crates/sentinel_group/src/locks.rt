@@ -1,18 +1,20 @@
 //! Locks of conf files, so that no two programs run on one.
 //!
-//! What is locked is `<path>.lock`, an empty file that is made and stays: the file itself is replaced at each store,
-//! and a lock would go with it. The file is locked too as it is at the start, since it may have another name (a hard
-//! link), with another file to lock beside it. The system lets go of a lock when its program ends, however it does; a
-//! program that starts waits a second for that.
+//! What is locked is `<path>.lock`, an empty file that is made and stays: the file itself is replaced at each store.
+//! The file is locked too, as it is at the start, since it may have another name (a hard link), with another file to
+//! lock beside it; and `FileStore` locks each that takes its place, so that nobody else gets in where somebody removes
+//! `<path>.lock`. The system lets go of a lock when its program ends, however it does; a program that starts waits a
+//! second for that.
 
 use crate::conf_paths::ConfPath;
 use crate::failures::{fail, refuse_file, refuse_with_reason};
 use crate::new_files::make_file;
 use log::{Log, warn};
+use sentinel_conf::give_access_of;
 use sentinel_core::ServeFault;
 use std::fs::{self, File, Metadata, OpenOptions, TryLockError};
 use std::io::{self, ErrorKind};
-use std::os::unix::fs::{MetadataExt, fchown};
+use std::os::unix::fs::MetadataExt;
 use std::process::ExitCode;
 use std::thread;
 use std::time::Duration;
@@ -67,8 +69,7 @@ fn open_to_lock(rt: HostRuntime, path: &str) -> io::Result<File> {
 fn open_lock(rt: HostRuntime, beside: &Metadata, lock_path: &str) -> io::Result<LockFile> {
     let unmade = match make_file(rt, lock_path) {
         Ok(file) => {
-            let _ = fchown(&file, Some(beside.uid()), Some(beside.gid()));
-            let _ = file.set_permissions(beside.permissions());
+            let _ = give_access_of(&file, beside);
             return Ok(LockFile::Open(file));
         }
         Err(error) => error,
@@ -95,14 +96,6 @@ fn lock_soon(rt: HostRuntime, file: &File) -> Result<(), TryLockError> {
     file.try_lock()
 }
 
-/// Opens the file three times, so that the lock never gets descriptor 0, 1 or 2 when these are closed.
-fn stand_in(rt: HostRuntime, path: &str) -> (Option<File>, Option<File>, Option<File>) {
-    let first = File::open(&rt, path).ok();
-    let second = File::open(&rt, path).ok();
-    let third = File::open(&rt, path).ok();
-    (first, second, third)
-}
-
 impl FileLock {
     /// Nothing is locked of what can't be opened, or is no file: nobody runs on it.
     fn of_nothing() -> FileLock {
@@ -121,8 +114,37 @@ impl FileLock {
     }
 }
 
-/// Locks the file beside the file at this path of its own, and then that one as it is now. The latter isn't locked
-/// where the system has no lock for it: the former is what keeps other programs away.
+/// Whether the open file is the one at this path. Where the system doesn't say, it is.
+fn is_at(rt: HostRuntime, file: &File, path: &str) -> bool {
+    match (file.metadata(), fs::metadata(&rt, path)) {
+        (Ok(own), Ok(found)) => (own.dev(), own.ino()) == (found.dev(), found.ino()),
+        _ => true,
+    }
+}
+
+/// Locks the file at this path of its own. A program that runs on it may put another one in its place before the lock
+/// is had, which is the one to lock then. None is locked where it can't be opened, or the system has no lock for it:
+/// the file beside it is what keeps other programs away.
+fn lock_itself<'a>(
+    rt: HostRuntime,
+    named: &'a str,
+    own: &str,
+) -> Result<Option<File>, LockFault<'a>> {
+    for _ in 0..TRIES {
+        let Ok(file) = open_to_lock(rt, own) else {
+            return Ok(None);
+        };
+        match lock_soon(rt, &file) {
+            Ok(()) if is_at(rt, &file, own) => return Ok(Some(file)),
+            Ok(()) => {}
+            Err(TryLockError::WouldBlock) => return Err(LockFault::InUse(named)),
+            Err(TryLockError::Error(_)) => return Ok(None),
+        }
+    }
+    Err(LockFault::InUse(named))
+}
+
+/// Locks the file beside the file at this path of its own, and then that one.
 fn lock_both<'a>(
     rt: HostRuntime,
     named: &'a str,
@@ -140,14 +162,7 @@ fn lock_both<'a>(
             Err(TryLockError::Error(error)) => return Err(LockFault::Unlockable(named, error)),
         }
     }
-    let mut file = open_to_lock(rt, own).ok();
-    if let Some(opened) = &file {
-        match lock_soon(rt, opened) {
-            Ok(()) => {}
-            Err(TryLockError::WouldBlock) => return Err(LockFault::InUse(named)),
-            Err(TryLockError::Error(_)) => file = None,
-        }
-    }
+    let file = lock_itself(rt, named, own)?;
     Ok(FileLock { held, unmade, file })
 }
 
@@ -169,16 +184,13 @@ pub(crate) fn lock_file<'a>(
     let Ok(lock_path) = format!(in rt.alloc(); "{own}.lock") else {
         return Err(LockFault::NoMemory);
     };
-    let standing_in = stand_in(rt, own);
-    if standing_in.0.is_none() {
+    if File::open(&rt, own).is_err() {
         return Ok(FileLock::of_nothing());
     }
-    let locked = match open_lock(rt, &metadata, lock_path.as_str()) {
+    match open_lock(rt, &metadata, lock_path.as_str()) {
         Ok(lock_file) => lock_both(rt, path.named(), own, lock_file),
         Err(error) => Err(LockFault::Unlockable(path.named(), error)),
-    };
-    drop(standing_in);
-    locked
+    }
 }
 
 /// Locks the file at each path. At a fault none is locked any more.

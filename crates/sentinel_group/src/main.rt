@@ -19,6 +19,7 @@ mod new_files;
 mod new_folders;
 mod new_groups;
 mod new_ids;
+mod new_texts;
 mod noted_store;
 mod ready_files;
 mod redis_text;
@@ -51,6 +52,7 @@ use log::{LevelFilter, Logged};
 use sentinel_conf::{Conf, ConfStore, MemoryStore, read};
 use sentinel_core::{Sentinel, ServeFault};
 use sentinel_runner::{NoteForm, NoteQueue};
+use std::fs::File;
 use std::process::ExitCode;
 
 /// The configuration of a Sentinel that is given no file: it watches one master with three other Sentinels.
@@ -113,7 +115,17 @@ fn answer(rt: HostRuntime, words: &ArgMatches) -> ExitCode {
     }
 }
 
+/// Opens a folder three times, so that no file that is opened later gets descriptor 0, 1 or 2 where these are closed: a
+/// folder can't be read or written, as what is closed can't.
+fn stand_in(rt: HostRuntime) -> (Option<File>, Option<File>, Option<File>) {
+    let first = File::open(&rt, "/").ok();
+    let second = File::open(&rt, "/").ok();
+    let third = File::open(&rt, "/").ok();
+    (first, second, third)
+}
+
 fn main(rt: HostRuntime) -> ExitCode {
+    let _standing_in = stand_in(rt);
     let Ok(mut command) = command(rt.alloc()) else {
         return fail(&rt, ServeFault::NoMemory);
     };

@@ -16,8 +16,8 @@ fn name_of(path: &str) -> &str {
     }
 }
 
-/// Writes a text to a file that isn't there yet, with the permissions of the conf, since passwords can be in both, and
-/// has the disk hold it.
+/// Writes a text to a file that isn't there yet, with the owner and the permissions of the conf, since passwords can be
+/// in both, and has the disk hold it.
 fn write_new(rt: HostRuntime, conf_path: &str, path: &str, text: &[u8]) -> io::Result<()> {
     let mut file = make_file_as(rt, path, conf_path)?;
     file.write_all(text)?;

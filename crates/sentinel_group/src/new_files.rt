@@ -1,5 +1,6 @@
 //! New files that can hold passwords.
 
+use sentinel_conf::give_access_of;
 use std::fs::{self, File, OpenOptions};
 use std::io;
 use std::os::unix::fs::OpenOptionsExt;
@@ -15,10 +16,11 @@ pub(crate) fn make_file(rt: HostRuntime, path: &str) -> io::Result<File> {
     how.open(&rt, path)
 }
 
-/// Makes a file where nothing is, with the permissions of the one at `model`, and without those for a moment before.
+/// Makes a file where nothing is, with the owner and the permissions of the one at `model`, as far as the system lets
+/// it, and without those for a moment before.
 pub(crate) fn make_file_as(rt: HostRuntime, path: &str, model: &str) -> io::Result<File> {
-    let permissions = fs::metadata(&rt, model)?.permissions();
+    let model = fs::metadata(&rt, model)?;
     let file = make_file(rt, path)?;
-    file.set_permissions(permissions)?;
+    give_access_of(&file, &model)?;
     Ok(file)
 }

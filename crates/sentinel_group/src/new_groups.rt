@@ -4,11 +4,12 @@ use crate::command_line::REFUSED_WORDS;
 use crate::failures::{fail, fail_group, refuse_file, refuse_file_to_write};
 use crate::group_files::text_at;
 use crate::new_folders::{NewFile, write_folder};
+use crate::new_texts::{read_texts, refuse_unreached};
 use ballot_law::{Addr, Member, Name, RunId, Text};
 use clap::ArgMatches;
 use conf_check::{
-    ID_BYTES, NewGroup, NewGroupFault, id_line, is_password, new_group_texts, node_address,
-    sentinel_address, shared_address,
+    ID_BYTES, NewGroup, NewGroupFault, NewMaster, id_line, is_password, new_group_texts,
+    node_address, sentinel_address, shared_address,
 };
 use sentinel_core::ServeFault;
 use sentinel_runner::GroupFault;
@@ -115,7 +116,11 @@ fn password_at(rt: HostRuntime, path: &str) -> Result<Vec<u8>, ExitCode> {
     let bytes = text.as_slice();
     let line = bytes.strip_suffix(b"\n").unwrap_or(bytes);
     if !is_password(line) {
-        return Err(refuse_file(&rt, path, 1, "BadPassword"));
+        let status = refuse_file(&rt, path, 1, "BadPassword");
+        let _ = eprintln!(rt;
+            "note: {path}:1: BadPassword: write one line of 1 to 4096 bytes, in UTF-8 and without control bytes"
+        );
+        return Err(status);
     }
     let mut password = Vec::new(rt.alloc());
     match password.extend_from_slice(line) {
@@ -150,7 +155,11 @@ fn quorum_of(rt: HostRuntime, words: &ArgMatches, sentinels: usize) -> Result<u3
 }
 
 /// Refuses words of which two name one address.
-fn refuse_shared(rt: HostRuntime, nodes: &[Addr], sentinels: &[Addr]) -> Result<(), ExitCode> {
+pub(crate) fn refuse_shared(
+    rt: HostRuntime,
+    nodes: &[Addr],
+    sentinels: &[Addr],
+) -> Result<(), ExitCode> {
     let mut all = Vec::new(rt.alloc());
     if all.extend_from_slice(nodes).is_err() || all.extend_from_slice(sentinels).is_err() {
         return Err(want_memory(rt));
@@ -167,9 +176,13 @@ fn refuse_shared(rt: HostRuntime, nodes: &[Addr], sentinels: &[Addr]) -> Result<
     Err(ExitCode::from(REFUSED_WORDS))
 }
 
-/// The master's name, and its data nodes: itself first.
-fn master_of(rt: HostRuntime, words: &ArgMatches) -> Result<(Name, Vec<Addr>), ExitCode> {
-    let master = words.get_strs("master").unwrap_or(&[]);
+/// The name of the new master that the words after `--<long>` name, and its data nodes: itself first.
+pub(crate) fn master_of(
+    rt: HostRuntime,
+    words: &ArgMatches,
+    long: &str,
+) -> Result<(Name, Vec<Addr>), ExitCode> {
+    let master = words.get_strs(long).unwrap_or(&[]);
     let [name, at] = master else {
         return Err(refuse_word(rt, "BadName", "", NAMES));
     };
@@ -185,20 +198,32 @@ fn master_of(rt: HostRuntime, words: &ArgMatches) -> Result<(Name, Vec<Addr>), E
     }
 }
 
+/// The new master of this name with these data nodes, as the words ask for it, in a group of so many Sentinels.
+pub(crate) fn new_master(
+    rt: HostRuntime,
+    words: &ArgMatches,
+    named: (Name, Vec<Addr>),
+    sentinels: usize,
+) -> Result<NewMaster, ExitCode> {
+    let (name, nodes) = named;
+    Ok(NewMaster {
+        name,
+        nodes,
+        quorum: quorum_of(rt, words, sentinels)?,
+        down_after_ms: words.get_one::<u32>("down-after").unwrap_or(DOWN_AFTER_MS),
+        password: password_of(rt, words)?,
+    })
+}
+
 /// The group that the words ask for.
 fn group_of(rt: HostRuntime, words: &ArgMatches) -> Result<NewGroup, ExitCode> {
-    let (name, nodes) = master_of(rt, words)?;
+    let (name, nodes) = master_of(rt, words, "master")?;
     let sentinels = words.get_strs("sentinel").unwrap_or(&[]);
     let sentinels = addresses_of(rt, sentinels, Named::Sentinel)?;
     refuse_shared(rt, nodes.as_slice(), sentinels.as_slice())?;
-    let quorum = quorum_of(rt, words, sentinels.len())?;
     Ok(NewGroup {
-        name,
-        nodes,
+        master: new_master(rt, words, (name, nodes), sentinels.len())?,
         sentinels: members_at(rt, sentinels.as_slice())?,
-        quorum,
-        down_after_ms: words.get_one::<u32>("down-after").unwrap_or(DOWN_AFTER_MS),
-        password: password_of(rt, words)?,
     })
 }
 
@@ -258,12 +283,27 @@ pub(crate) fn refuse_folder(rt: HostRuntime, folder: &str, error: io::Error) -> 
     status
 }
 
+/// Warns of a number of Sentinels by which a group gains nothing over one less, or doesn't outlive the loss of one.
+fn warn_of_count(rt: HostRuntime, sentinels: usize) {
+    if sentinels < 3 {
+        let _ = eprintln!(rt;
+            "warning: with fewer than three Sentinels nobody fails over once one of them is lost: name three, or five"
+        );
+    } else if sentinels.is_multiple_of(2) {
+        let _ = eprintln!(rt;
+            "warning: {sentinels} Sentinels may lose no more of them than one less: name an odd number"
+        );
+    }
+}
+
 /// Writes the files of the new group that the words ask for into a new folder, or one that is empty.
 fn made(rt: HostRuntime, words: &ArgMatches) -> Result<(), ExitCode> {
     let folder = words.get_str("folder").unwrap_or("");
     let group = group_of(rt, words)?;
     let texts = texts_of(rt, &group)?;
     let files = files_of(rt, &group, texts.as_slice())?;
+    let confs = read_texts(rt, texts.as_slice())?;
+    refuse_unreached(rt, files.as_slice(), confs.as_slice())?;
     if let Err(error) = write_folder(rt, folder, files.as_slice()) {
         return Err(refuse_folder(rt, folder, error));
     }
@@ -271,6 +311,7 @@ fn made(rt: HostRuntime, words: &ArgMatches) -> Result<(), ExitCode> {
         let name = file.name.as_str();
         let _ = eprintln!(rt; "note: {folder}/{name} is written");
     }
+    warn_of_count(rt, group.sentinels.len());
     Ok(())
 }
 

@@ -2,27 +2,56 @@
 
 ghost use Rattle.std.specs.Prelude.{◌≡◌, ◌≢◌, ◌↔◌, IfOk, IsSome};
 
+use conf_lines::{Line, line_of};
 use log::{Level, Log, log_enabled, warn};
 use sentinel_conf::{ConfStore, FileFault, FileStep, FileStore, FileText, LoadFault, StoreRefused};
 use std::alloc::AllocError;
 use std::marker::Model;
+use std::str::from_utf8;
 
-/// A store that tells why its calls failed.
+/// A store that tells why its calls failed, and what somebody else put in the place of its text.
 pub(crate) trait TellsFault: ConfStore {
+    /// Whether somebody else wrote what it holds, since it was loaded or stored last.
+    fn is_edited(&self) -> bool;
+
+    /// What somebody else wrote; None where nobody did, or it can't be read.
+    fn edited_text(&self) -> Option<FileText>;
+
     /// Why the last of the calls that failed did. None where none has failed.
     fn fault(&self) -> Option<FileFault>
         ensures { IsSome result ↔ (Self.failure_count self.now ≢ 0) };
 }
 
 impl TellsFault for FileStore<HostRuntime> {
+    fn is_edited(&self) -> bool {
+        FileStore::is_edited(self)
+    }
+
+    fn edited_text(&self) -> Option<FileText> {
+        FileStore::edited_text(self)
+    }
+
     fn fault(&self) -> Option<FileFault> {
         self.last_fault()
     }
 }
 
+/// Whether a line sets something that may be shown: no password, and nothing that each store writes anew.
+fn is_setting(line: &str) -> bool {
+    matches!(line_of(line.as_bytes()), Line::Setting(_))
+}
+
+/// Whether the text has this line.
+fn has_line(text: &[u8], line: &str) -> bool {
+    match from_utf8(text) {
+        Ok(text) => text.lines().any(|it| it == line),
+        Err(_) => false,
+    }
+}
+
 /// The file of the Sentinel with this port, as a store. Each text that is refused gets a note: which Sentinel, which
-/// file, what failed, and the system's reason; so does a load that fails, as at a start by order. Contracts see the
-/// store without its notes.
+/// file, what failed, and the system's reason; so does a load that fails, as at a start by order, and a text that is
+/// about to take the place of what somebody else wrote. Contracts see the store without its notes.
 #[derive(Drop)]
 pub(crate) struct NotedStore<'a, S: TellsFault, R: Log> {
     store: S,
@@ -57,6 +86,24 @@ impl<'a, S: TellsFault + Drop, R: Log> NotedStore<'a, S, R> {
             port,
             path: String::from_str(rt.alloc(), path)?,
         })
+    }
+
+    /// Notes that somebody edited the file, over which this text is written, and which settings go with that.
+    fn note_edited(&self, text: &[u8]) {
+        let noting = self.noting.span("sentinel").with("port", self.port);
+        let path = self.path.as_str();
+        warn!(noting; "somebody edited {path} while it ran: that is overwritten");
+        let Some(edited) = self.store.edited_text() else {
+            return;
+        };
+        let Ok(edited) = from_utf8(edited.as_slice()) else {
+            return;
+        };
+        for line in edited.lines() {
+            if is_setting(line) && !has_line(text, line) {
+                warn!(noting; "{path} loses the line: {line}");
+            }
+        }
     }
 
     /// Notes that a text isn't stored, and why: at which step, and the system's reason.
@@ -107,6 +154,9 @@ impl<S: TellsFault + Drop, R: Log> ConfStore for NotedStore<'_, S, R> {
     }
 
     fn replace(&mut self, text: &[u8]) -> Result<(), StoreRefused> {
+        if self.store.is_edited() {
+            self.note_edited(text);
+        }
         let stored = self.store.replace(text);
         if stored.is_err() {
             self.note_refused();

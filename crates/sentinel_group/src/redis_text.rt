@@ -19,8 +19,8 @@ enum Unwritten {
     NoMemory,
 }
 
-/// Writes the text to a new file with the permissions of the conf, since passwords can be in both, has the disk hold
-/// it, and gives it its name.
+/// Writes the text to a new file with the owner and the permissions of the conf, since passwords can be in both, has
+/// the disk hold it, and gives it its name.
 fn write_named(
     rt: HostRuntime,
     conf_path: &str,

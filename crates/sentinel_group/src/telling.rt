@@ -6,7 +6,8 @@ use conf_check::{Directives, NamedConf, add_notes, add_sides, add_watch_warnings
 use log::{Log, info, warn};
 use sentinel_conf::{Conf, WatchKind, WatchLine, line_of, read_watch};
 use std::fs;
-use std::io::{self, Write};
+use std::io::{self, ErrorKind, Write};
+use std::net::{Ipv4Addr, SocketAddr, UdpSocket};
 use std::str::from_utf8;
 use tokens::split_line;
 
@@ -82,6 +83,33 @@ pub(crate) fn note_watch<R: Log>(
             Some(told) => warn!(noting; "{told}"),
             None => info!(noting; "{}", line.strip_prefix("note: ").unwrap_or(line)),
         }
+    }
+}
+
+/// The ip by which others know the Sentinel of this conf, where it is none of this machine.
+fn foreign_ip(rt: HostRuntime, conf: &Conf) -> Option<Ipv4Addr> {
+    let own = conf.roster().sentinels().get(usize::from(conf.place()))?;
+    let ip = Ipv4Addr::from(own.addr.ip);
+    match UdpSocket::bind(&rt, SocketAddr::from((ip, 0))) {
+        Err(error) if error.kind() == ErrorKind::AddrNotAvailable => Some(ip),
+        _ => None,
+    }
+}
+
+/// Notes that others know the Sentinel of the file by an ip that is none of this machine.
+pub(crate) fn note_foreign_ip<R: Log>(rt: HostRuntime, noting: &R, path: &str, conf: &Conf) {
+    if let Some(ip) = foreign_ip(rt, conf) {
+        warn!(noting; "{path}:0: announce-ip {ip} is no address of this machine: see that it is the right file, unless addresses are translated (NAT)");
+    }
+}
+
+/// Tells the same of the file of a group that is looked at.
+pub(crate) fn tell_foreign_ip(rt: HostRuntime, file: &NamedConf) {
+    if let Some(ip) = foreign_ip(rt, &file.conf) {
+        let path = file.name.as_str();
+        let _ = eprintln!(rt;
+            "warning: {path}:0: announce-ip {ip} is no address of this machine: see that it is the right file, unless addresses are translated (NAT)"
+        );
     }
 }
 

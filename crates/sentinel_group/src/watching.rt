@@ -18,7 +18,7 @@ use crate::locks::{FileLock, lock_file, refuse_lock};
 use crate::noted_store::{NotedFile, NotedStore, TellsFault};
 use crate::ready_files::ReadyFile;
 use crate::starting::note_sentinel;
-use crate::telling::{note_watch, tell_faults, tell_watch};
+use crate::telling::{note_foreign_ip, note_watch, tell_faults, tell_watch};
 use ballot_law::Text;
 use clap::ArgMatches;
 use client_port::{Admission, PortAddress, ReadsTimes};
@@ -254,20 +254,18 @@ fn watch_file<'a, R: Log>(
     }
 }
 
-/// The file that the words name, and its lock. What is wrong with it is told also where another program runs on it.
+/// The file at the path, and its lock. What is wrong with it is told also where another program runs on it.
 fn locked_file<'a, R: Log>(
     rt: HostRuntime,
     noting: &'a R,
+    path: &ConfPath<'_>,
     words: &ArgMatches,
 ) -> Result<(WatchFile<NotedFile<'a, R>>, FileLock), ExitCode>
     ensures store { IfOk result (λ locked. locked.0.loaded.store ≡ 0) }
     ensures settings { IfOk result (λ locked. IsSaidIn locked.0.loaded.conf locked.0.loaded.text locked.0.settings) }
 {
-    let Ok(path) = ConfPath::of(rt, words.get_str("conf").unwrap_or("")) else {
-        return Err(fail(&rt, ServeFault::NoMemory));
-    };
-    let locked = lock_file(rt, &path);
-    let file = watch_file(rt, noting, &path, port_of(words))?;
+    let locked = lock_file(rt, path);
+    let file = watch_file(rt, noting, path, port_of(words))?;
     match locked {
         Ok(lock) => {
             lock.note(noting, path.named());
@@ -283,6 +281,7 @@ fn note_begin<R: Log>(rt: HostRuntime, noting: &R, path: &str, conf: &Conf, text
     note_sentinel(noting, conf);
     let sentinels = conf.roster().sentinels().len() as u64;
     note_watch(rt, noting, path, sentinels, text);
+    note_foreign_ip(rt, noting, path, conf);
 }
 
 /// Runs a Sentinel whose port is open, and keeps its ready file meanwhile.
@@ -313,14 +312,17 @@ pub(crate) fn watch<R>(rt: HostRuntime, noting: &R, words: &ArgMatches) -> Resul
 where
     R: Threads + Wait + Net + Clock + ReadsTimes + Log + Sync,
 {
-    let (file, lock) = match locked_file(rt, noting, words) {
+    let Ok(path) = ConfPath::of(rt, words.get_str("conf").unwrap_or("")) else {
+        return Err(Unwatched::Fault(GroupFault::NoMemory));
+    };
+    let (file, lock) = match locked_file(rt, noting, &path, words) {
         Ok(locked) => locked,
         Err(status) => return Err(Unwatched::Refused(status)),
     };
     let WatchFile { loaded, settings } = file;
-    let path = words.get_str("conf").unwrap_or("");
-    note_begin(rt, noting, path, loaded.conf(), loaded.text());
-    let ready = match ReadyFile::cleared(rt, noting, words.get_str("ready-file")) {
+    note_begin(rt, noting, path.named(), loaded.conf(), loaded.text());
+    let own = path.own().unwrap_or(path.named());
+    let ready = match ReadyFile::cleared(rt, noting, words.get_str("ready-file"), own) {
         Ok(ready) => ready,
         Err(status) => return Err(Unwatched::Refused(status)),
     };

@@ -1,6 +1,6 @@
 -- An input changes at most the current epoch and the entry of the master that its event concerns.
 use Rattle.std.proofs.Common.{◌≡◌, ◌≢◌, ℕ, zero, suc, ◌+◌, Bool, true, false, Option, Some, None, refl, sym, ap, ◌∙◌, [], subst}
-use Rattle.std.specs.Prelude.{Result, Ok, Err, is_some, nat_lt, not, ◌&&◌, ◌==◌, if◌then◌else◌, ◌||◌}
+use Rattle.std.specs.Prelude.{Result, Ok, Err, is_some, nat_lt, not, ◌&&◌, ◌==◌, if◌then◌else◌}
 use Rattle.std.proofs.lemmas.Option.{same_Some}
 use Rattle.ballot_law.specs.declared.addresses.Addr.{Addr}
 use Rattle.ballot_law.specs.declared.addresses.RunId.{RunId}
@@ -37,13 +37,14 @@ use Rattle.resp2.specs.declared.command.CommandFault.TheVariants.{UnknownCommand
 use Rattle.sentinel_rules.specs.declared.profiles.Profile.{Profile}
 use Rattle.sentinel_rules.specs.declared.profiles.Profile.TheVariants.{Strict, Redis}
 use Rattle.sentinel_rules.specs.Plans.{Plan, roster_of, me, group_size, master_count, node_named}
-use Rattle.sentinel_rules.specs.States.{is_master_role, Core, master_of, failover_of, card_place, is_failing_over, is_tilted, with_master, with_failover, with_current, with_card, is_wished, is_handed, is_planned}
+use Rattle.sentinel_rules.specs.States.{is_master_role, Core, master_of, failover_of, card_place, is_failing_over, is_tilted, with_master, with_failover, with_current, with_card, is_awaiting, is_at, is_planned}
 use Rattle.sentinel_rules.specs.Parts.{Part, quiet, part_if}
-use Rattle.sentinel_rules.specs.Profiles.{is_asking, is_redis, election_ms, marked_at, marked, rest_of, rested, by_profile, candidate_place}
+use Rattle.sentinel_rules.specs.Profiles.{is_asking, is_redis, election_ms, marked_at, marked, rest_of, rested, by_profile, candidate_place, candidate_heeded, awaited_up, disobeyed, with_failed}
+use Rattle.sentinel_rules.specs.Endings.{is_vain, given_up, is_overtaken, taken_up, let_go}
 use Rattle.sentinel_rules.specs.Votes.{book_of, with_book, mark_for, requested}
-use Rattle.sentinel_rules.specs.Ticks.{peers_part, nodes_part, odown_part, ask_part, ask_candidate, ask_frames, is_ask_due, with_vote, with_win, turn_of, campaign_epoch, row_part, after_start, start_turn, starts_now, start_part, failover_part, judging_part, master_part, with_reading, tick, planned_start, with_plan}
-use Rattle.sentinel_rules.specs.News.{at_same_address, at_new_address, card_taken, is_heeded, is_newer, raised_to, adopted, hello_of_known, hello_heeded, hello_read, reported, vote_heard, answered, pinged_at, peer_lost, lost_at, connection_lost, disconnected, pinged, info_kept, promotion, has_followed, reconfiguration, correction, is_reconfiguring, judged, info_at_node, info_of_node, info_read, refusal_at, refusal_heard, with_frames, closing_frames, greeted_at, greeted, announced_at}
-use Rattle.sentinel_rules.specs.Answers.{asked_of, master_with_card, commanded, Answered, unchanged, reply, named, has_heir, wished, asked_to_switch}
+use Rattle.sentinel_rules.specs.Ticks.{peers_part, nodes_part, odown_part, ask_part, ask_candidate, ask_frames, is_ask_due, with_vote, with_win, turn_of, campaign_epoch, row_part, after_start, start_turn, starts_now, start_part, failover_part, judging_part, master_part, with_reading, tick, planned_start, with_plan, odown_kept}
+use Rattle.sentinel_rules.specs.News.{at_same_address, at_new_address, card_taken, is_heeded, is_newer, raised_to, adopted, hello_of_known, hello_heeded, hello_read, reported, vote_heard, answered, pinged_at, peer_lost, lost_at, connection_lost, disconnected, pinged, info_kept, promotion, has_followed, reconfiguration, correction, is_reconfiguring, judged, info_at_node, info_of_node, info_read, order_taker, refusal_at, refusal_heard, with_frames, closing_frames, greeted_at, greeted, announced_at}
+use Rattle.sentinel_rules.specs.Answers.{asked_of, master_with_card, commanded, Answered, unchanged, reply, named, is_engaged, has_heir, wished, asked_to_switch}
 use Rattle.sentinel_rules.specs.Takes.{next, next_at, cleared}
 use Rattle.sentinel_rules.specs.Changes.{ChangesAt, ChangesOne, InputsChangeAt, InputsChangeOne, asked_about, concerned, listed_by, told_of}
 use Rattle.sentinel_rules.proofs.KeptParts.{other_entry}
@@ -110,6 +111,10 @@ rest_touches : (plan : Plan) (m now : ℕ) (rest : Option ℕ) (core : Core) →
 rest_touches plan m now None core = stays m core
 rest_touches plan m now (Some rest) core = λ k apart. refl
 
+failed_touches : (m now : ℕ) (failed : Option ℕ) (core : Core) → Touches m core (with_failed m now failed core)
+failed_touches m now None core = stays m core
+failed_touches m now (Some k) core = λ k apart. refl
+
 row_touches : (plan : Plan) (m now : ℕ) (core : Core) → Touches m core (row_part plan m now core).core
 row_touches plan m now core =
     let turn : Turn = turn_of plan core m now false in
@@ -118,9 +123,13 @@ row_touches plan m now core =
     let second : Core = with_vote plan m now epoch turn.vote first in
     let third : Core = with_win m epoch turn.row second in
     let rest : Option ℕ = rest_of plan.profile turn.row (election_ms plan m) in
-    chained m core third (rested plan m now rest third)
+    let fourth : Core = rested plan m now rest third in
+    let failed : Option ℕ = disobeyed turn.row (awaited_up plan core m now) in
+    chained m core fourth (with_failed m now failed fourth)
+    (chained m core third fourth
     (chained m core second third (chained m core first second (λ k apart. refl) (vote_touches plan m now epoch turn.vote first)) (win_touches m epoch turn.row second))
-    (rest_touches plan m now rest third)
+    (rest_touches plan m now rest third))
+    (failed_touches m now failed fourth)
 
 begun : (m : ℕ) (turn : Turn) (core : Core) → Touches m core (after_start m turn core)
 begun m turn core =
@@ -152,11 +161,23 @@ failover_touches plan m now core =
     (chained m core first second (start_touches plan m now core) (if_part m first (is_failing_over first m) (row_part plan m now) (row_touches plan m now first)))
     (ask_touches plan m now (starts_now plan core m now) second)
 
+let_go_touches : (plan : Plan) (m now : ℕ) (core : Core) → Touches m core (let_go plan m now core)
+let_go_touches plan m now core = by_rule plan.profile (is_vain plan core m now) (is_overtaken plan core m now)
+  where
+    by_rule : (profile : Profile) (vain overtaken : Bool) →
+        Touches m core (by_profile profile core (if vain then given_up plan m now core else (if overtaken then taken_up m now core else core)))
+    by_rule Strict vain overtaken = stays m core
+    by_rule Redis true overtaken = λ k apart. refl
+    by_rule Redis false true = λ k apart. refl
+    by_rule Redis false false = stays m core
+
 judging_touches : (plan : Plan) (m now : ℕ) (core : Core) → Touches m core (judging_part plan m now core).core
 judging_touches plan m now core =
     let first : Core = (odown_part plan m now core).core in
     by_part m core (not (is_tilted core)) (record { core = (failover_part plan m now first).core; frames = _ }) (quiet core)
-    (chained m core first (failover_part plan m now first).core (λ k apart. refl) (failover_touches plan m now first))
+    (chained m core first (failover_part plan m now first).core
+    (chained m core (odown_kept plan m now core) first (λ k apart. refl) (let_go_touches plan m now (odown_kept plan m now core)))
+    (failover_touches plan m now first))
     (stays m core)
 
 tick_touches : (plan : Plan) (m random now : ℕ) (core : Core) → Touches m core (tick plan m random now core).core
@@ -297,7 +318,7 @@ loss_at plan node core = at_by_test None core (is_redis plan.profile) (connectio
 no_refusal : (plan : Plan) (at : Option NodePlace) (core : Core) → At None core (refusal_at plan at core)
 no_refusal plan None core = same None core
 no_refusal plan (Some at) core =
-    at_by_test None core (is_handed core at.master && (at.place == card_place plan core at.master))
+    at_by_test None core (is_awaiting (failover_of core at.master).state && is_at (order_taker plan core at.master) at.place)
     (with_master core at.master (record (master_of core at.master) { refused = true })) core (λ k apart. refl) (same None core)
 
 refused_at : (plan : Plan) (node : NodeName) (core : Core) → At None core (refusal_heard plan node core)
@@ -366,14 +387,14 @@ switch_changes plan m now false false false core = same None core
 
 asked_changes : (plan : Plan) (now : ℕ) (m : Option ℕ) (core : Core) → At None core (asked_to_switch plan now m core).core
 asked_changes plan now None core = same None core
-asked_changes plan now (Some m) core = switch_changes plan m now (is_failing_over core m || is_wished core m now) (is_tilted core) (has_heir plan core m now) core
+asked_changes plan now (Some m) core = switch_changes plan m now (is_engaged plan core m now) (is_tilted core) (has_heir plan core m now) core
 
 either_changes : (core : Core) (profile : Profile) (strict redis : Answered) → At None core strict.core → At None core redis.core → At None core (by_profile profile strict redis).core
 either_changes core Strict strict redis f g = f
 either_changes core Redis strict redis f g = g
 
 commanded_at : (plan : Plan) (now : ℕ) (command : Command) (core : Core) → At (asked_about command core.kept) core (commanded plan now command core).core
-commanded_at plan now (IsMasterDownByAddr addr epoch candidate) core = asked_at_most plan now addr epoch candidate (master_with_card core.kept.masters addr) core
+commanded_at plan now (IsMasterDownByAddr addr epoch candidate) core = asked_at_most plan now addr epoch (candidate_heeded plan candidate) (master_with_card core.kept.masters addr) core
 commanded_at plan now Ping core = same None core
 commanded_at plan now (GetMasterAddrByName name) core = same None core
 commanded_at plan now Masters core = same None core

@@ -12,13 +12,13 @@ use Rattle.replica_choice.specs.declared.candidates.Candidate.{Candidate}
 use Rattle.replica_choice.specs.declared.candidates.Limits.{Limits}
 use Rattle.replica_choice.specs.Choices.{is_eligible, is_better, candidate_at, no_candidate, with_place, choice_below, choice_of}
 use Rattle.ballot_law.proofs.CountedVotes.{both, eqb-same}
-use Rattle.sentinel_rules.specs.Profiles.{by_profile, place_followed, passing, is_taking_over, switched_to, is_given_away, first_of}
+use Rattle.sentinel_rules.specs.Profiles.{by_profile, passing, is_taking_over, switched_to, is_given_away, first_of, is_passed_over}
 use Rattle.sentinel_rules.specs.declared.profiles.Profile.{Profile}
 use Rattle.sentinel_rules.specs.declared.profiles.Profile.TheVariants.{Strict, Redis}
 use Rattle.sentinel_rules.specs.declared.assumed.TheConstants.{ASSUMED_INFO}
 use Rattle.sentinel_rules.specs.Plans.{Plan, master_count, nodes_of, addr_at, node_place}
-use Rattle.sentinel_rules.specs.States.{Core, node_of, card_place, is_node_down}
-use Rattle.sentinel_rules.specs.Ticks.{at_places, candidate_of, candidates_of, limits_of, best_of, best_place}
+use Rattle.sentinel_rules.specs.States.{Core, node_of, card_place, is_node_down, place_followed}
+use Rattle.sentinel_rules.specs.Ticks.{at_places, candidate_of, candidates_of, willing_of, best_willing, limits_of, best_told, best_of, best_place}
 use Rattle.sentinel_rules.specs.Answers.{numbers_from}
 use Rattle.sentinel_rules.specs.Facts.{IsSoundPlan}
 use Rattle.sentinel_rules.proofs.Turns.{Best}
@@ -169,29 +169,50 @@ unless_given_away : (plan : Plan) (core : Core) (m : ℕ) (away : Bool) (told : 
 unless_given_away plan core m true told f = tt
 unless_given_away plan core m false told f = f
 
-told_other : (plan : Plan) (core : Core) (m now : ℕ) → IsOther plan core m (choice_of (candidates_of plan core m now) now (limits_of plan core m now))
-told_other plan core m now = known (choice_of (candidates_of plan core m now) now (limits_of plan core m now)) refl
+-- what is chosen of candidates that count as down where they are the configuration's node
+listed_other : (plan : Plan) (core : Core) (m now : ℕ) (f : ℕ → Candidate) → ((k : ℕ) → (f k).sdown ≡ false → k ≡ card_place plan core m → ⊥) →
+    IsOther plan core m (choice_of (at_places f 0 (length (nodes_of plan m))) now (limits_of plan core m now))
+listed_other plan core m now f out = known (choice_of all now (limits_of plan core m now)) refl
   where
-    known : (choice : Option ℕ) → choice_of (candidates_of plan core m now) now (limits_of plan core m now) ≡ choice → IsOther plan core m choice
+    all : List Candidate
+    all = at_places f 0 (length (nodes_of plan m))
+
+    known : (choice : Option ℕ) → choice_of all now (limits_of plan core m now) ≡ choice → IsOther plan core m choice
     known None e = tt
     known (Some k) e =
-        let long : length (candidates_of plan core m now) ≡ length (nodes_of plan m) = length-at_places (candidate_of plan core m now) 0 (length (nodes_of plan m)) in
-        let is = eligible (candidates_of plan core m now) now (limits_of plan core m now) (length (candidates_of plan core m now)) k e in
+        let long : length all ≡ length (nodes_of plan m) = length-at_places f 0 (length (nodes_of plan m)) in
+        let is = eligible all now (limits_of plan core m now) (length all) k e in
         let inside : k < length (nodes_of plan m) = subst (λ (c : ℕ). k < c) long is.0 in
-        let there : candidate_at (candidates_of plan core m now) k ≡ candidate_of plan core m now k =
-        at_place (candidate_of plan core m now) 0 (length (nodes_of plan m)) k k no_candidate inside (omega arith) in
-        let not_down : ((eqb k (card_place plan core m) || is_node_down plan core m now k) || (node_of core m k).lost) ≡ false =
-        up now (limits_of plan core m now) (candidate_of plan core m now k) (subst (λ (c : Candidate). is_eligible now (limits_of plan core m now) c ≡ true) there is.1) in
-        let up_or_card : (eqb k (card_place plan core m) || is_node_down plan core m now k) ≡ false =
-        (or_parts (eqb k (card_place plan core m) || is_node_down plan core m now k) (node_of core m k).lost not_down).0 in
-        let apart : k ≡ card_place plan core m → ⊥ = eqb-false k (card_place plan core m)
-        (or_parts (eqb k (card_place plan core m)) (is_node_down plan core m now k) up_or_card).0 in
-        (inside, apart)
+        let there : candidate_at all k ≡ f k = at_place f 0 (length (nodes_of plan m)) k k no_candidate inside (omega arith) in
+        (inside, out k (up now (limits_of plan core m now) (f k) (subst (λ (c : Candidate). is_eligible now (limits_of plan core m now) c ≡ true) there is.1)))
+
+card_is_out : (plan : Plan) (core : Core) (m now k : ℕ) → (candidate_of plan core m now k).sdown ≡ false → k ≡ card_place plan core m → ⊥
+card_is_out plan core m now k not_down =
+    let up_or_card : (eqb k (card_place plan core m) || is_node_down plan core m now k) ≡ false =
+    (or_parts (eqb k (card_place plan core m) || is_node_down plan core m now k) (node_of core m k).lost not_down).0 in
+    eqb-false k (card_place plan core m) (or_parts (eqb k (card_place plan core m)) (is_node_down plan core m now k) up_or_card).0
+
+either_other : (plan : Plan) (core : Core) (m : ℕ) (profile : Profile) (strict redis : Option ℕ) → IsOther plan core m strict → IsOther plan core m redis →
+    IsOther plan core m (by_profile profile strict redis)
+either_other plan core m Strict strict redis f g = f
+either_other plan core m Redis strict redis f g = g
+
+told_other : (plan : Plan) (core : Core) (m now : ℕ) → IsOther plan core m (best_told plan core m now)
+told_other plan core m now =
+    either_other plan core m plan.profile (choice_of (candidates_of plan core m now) now (limits_of plan core m now))
+    (first_of (best_willing plan core m now false) (best_willing plan core m now true))
+    (listed_other plan core m now (candidate_of plan core m now) (card_is_out plan core m now))
+    (first_other plan core m (best_willing plan core m now false) (best_willing plan core m now true) (willing_other false) (willing_other true))
+  where
+    willing_other : (again : Bool) → IsOther plan core m (best_willing plan core m now again)
+    willing_other again =
+        listed_other plan core m now (willing_of plan core m now again)
+        (λ k h. card_is_out plan core m now k (or_parts (candidate_of plan core m now k).sdown (is_passed_over plan core m now again k) h).0)
 
 pub best_awaited : (plan : Plan) (core : Core) (m now : ℕ) → IsSoundPlan plan → m < master_count plan → Best plan core.kept m (best_of plan core m now)
 best_awaited plan core m now p lt =
     awaited_of plan core m (best_place plan core m now) p lt
     (first_other plan core m (switched_to plan core m now)
-    (if is_given_away plan core m now then None else choice_of (candidates_of plan core m now) now (limits_of plan core m now))
+    (if is_given_away plan core m now then None else best_told plan core m now)
     (switched_other plan core m now plan.profile)
-    (unless_given_away plan core m (is_given_away plan core m now) (choice_of (candidates_of plan core m now) now (limits_of plan core m now)) (told_other plan core m now)))
+    (unless_given_away plan core m (is_given_away plan core m now) (best_told plan core m now) (told_other plan core m now)))

@@ -1,6 +1,6 @@
 -- Each input by steps of the ballot model.
 use Rattle.std.proofs.Common.{◌≡◌, ℕ, ◌<◌, ◌≤◌, Bool, true, false, Option, Some, None, List, [], ◌∷◌, length, map, refl, sym, ap, subst, arith}
-use Rattle.std.specs.Prelude.{All, codes, not, ◌&&◌, ◌||◌, if◌then◌else◌}
+use Rattle.std.specs.Prelude.{All, codes, not, ◌&&◌, if◌then◌else◌}
 use Rattle.std.proofs.lemmas.List.Elements.{All-nil, All-cons}
 use Rattle.std.proofs.lemmas.List.Quantifiers.{position-Some}
 use Rattle.ballot_law.specs.declared.addresses.Addr.{Addr}
@@ -25,16 +25,16 @@ use Rattle.sentinel_rules.specs.Rows.{master_frame_by, masters_frame_by, replica
 use Rattle.resp2.specs.Framing.Frame.{Frame as Reply, Frame}
 use Rattle.port_answers.specs.Answers.{no_such_master, ok_line, id_frame, subscribed, in_progress, in_tilt, no_good_replica, command_fault}
 use Rattle.resp2.specs.declared.command.CommandFault.TheVariants.{UnknownCommand}
-use Rattle.sentinel_rules.specs.Profiles.{by_profile}
+use Rattle.sentinel_rules.specs.Profiles.{by_profile, candidate_heeded}
 use Rattle.sentinel_rules.specs.declared.profiles.Profile.{Profile}
 use Rattle.sentinel_rules.specs.declared.profiles.Profile.TheVariants.{Strict, Redis}
 use Rattle.ballot_law.proofs.RosterLemmas.{named_master}
 use Rattle.sentinel_rules.specs.Plans.{Plan, roster_of, me, master_count}
-use Rattle.sentinel_rules.specs.States.{Core, is_tilted, is_master_down, master_of, is_failing_over, is_wished}
+use Rattle.sentinel_rules.specs.States.{Core, is_tilted, is_master_down, master_of}
 use Rattle.sentinel_rules.specs.Parts.{Part, quiet, send, shown_of}
 use Rattle.sentinel_rules.specs.Votes.{requested}
 use Rattle.sentinel_rules.specs.News.{answered, pinged, disconnected, info_read, hello_read, refusal_heard}
-use Rattle.sentinel_rules.specs.Answers.{Answered, master_with_card, asked_at, asked_of, master_row, replica_rows, sentinel_rows, all_masters, quorum_frame, info_frame, reply, named, about, address_of, commanded, unchanged, has_heir, wished, asked_to_switch}
+use Rattle.sentinel_rules.specs.Answers.{Answered, master_with_card, asked_at, asked_of, master_row, replica_rows, sentinel_rows, all_masters, quorum_frame, info_frame, reply, named, about, address_of, commanded, unchanged, is_engaged, has_heir, wished, asked_to_switch}
 use Rattle.sentinel_rules.specs.Takes.{Next, next_at, shown_after, answer_to, cleared}
 use Rattle.sentinel_rules.specs.Ticks.{tick}
 use Rattle.sentinel_rules.specs.Facts.{IsSoundPlan, IsSound}
@@ -77,7 +77,7 @@ switch_steps : (plan : Plan) (event : Event) (m now : ℕ) (busy tilted heir : B
 switch_steps plan event m now true tilted heir core lt = stay_steps plan event 2 core
 switch_steps plan event m now false true heir core lt = stay_steps plan event 2 core
 switch_steps plan event m now false false true core lt =
-    twin_steps plan event 2 m core (wished m now core) lt (twin_master core m (record (master_of core m) { wish = Some now }) lt refl)
+    twin_steps plan event 2 m core (wished m now core) lt (twin_master core m (record (master_of core m) { wish = Some now; planned = None }) lt refl)
 switch_steps plan event m now false false false core lt = stay_steps plan event 2 core
 
 named_inside : (plan : Plan) (name : Option (List ℕ)) (m : ℕ) → named plan name ≡ Some m → m < master_count plan
@@ -88,7 +88,7 @@ asked_switch_steps : (plan : Plan) (event : Event) (now : ℕ) (m : Option ℕ) 
     StepsTo plan event 2 core (asked_to_switch plan now m core).core
 asked_switch_steps plan event now None core s f = stay_steps plan event 2 core
 asked_switch_steps plan event now (Some m) core s f =
-    switch_steps plan event m now (is_failing_over core m || is_wished core m now) (is_tilted core) (has_heir plan core m now) core (within_core plan core m s (f m refl))
+    switch_steps plan event m now (is_engaged plan core m now) (is_tilted core) (has_heir plan core m now) core (within_core plan core m s (f m refl))
 
 either_steps : (plan : Plan) (event : Event) (core : Core) (profile : Profile) (strict redis : Answered) → StepsTo plan event 2 core strict.core → StepsTo plan event 2 core redis.core →
     StepsTo plan event 2 core (by_profile profile strict redis).core
@@ -97,7 +97,7 @@ either_steps plan event core Redis strict redis f g = g
 
 commanded_steps : (plan : Plan) (event : Event) (now : ℕ) (command : Command) (core : Core) → IsSound plan core → StepsTo plan event 2 core (commanded plan now command core).core
 commanded_steps plan event now (IsMasterDownByAddr addr epoch candidate) core s =
-    asked_of_steps plan event now addr epoch candidate (master_with_card core.kept.masters addr) core s (card_within plan core addr s)
+    asked_of_steps plan event now addr epoch (candidate_heeded plan candidate) (master_with_card core.kept.masters addr) core s (card_within plan core addr s)
 commanded_steps plan event now Ping core s = stay_steps plan event 2 core
 commanded_steps plan event now (GetMasterAddrByName name) core s = stay_steps plan event 2 core
 commanded_steps plan event now Masters core s = stay_steps plan event 2 core
@@ -168,7 +168,7 @@ asked_switch_right : (plan : Plan) (parts : Parts) (target : NodeName) (now : �
     IsRightBody plan parts target (asked_to_switch plan now m core).body
 asked_switch_right plan parts target now None core = bare_right plan core parts target no_such_master
 asked_switch_right plan parts target now (Some m) core =
-    switch_right plan parts target m now (is_failing_over core m || is_wished core m now) (is_tilted core) (has_heir plan core m now) core
+    switch_right plan parts target m now (is_engaged plan core m now) (is_tilted core) (has_heir plan core m now) core
 
 either_right : (plan : Plan) (parts : Parts) (target : NodeName) (profile : Profile) (strict redis : Answered) → IsRightBody plan parts target strict.body →
     IsRightBody plan parts target redis.body → IsRightBody plan parts target (by_profile profile strict redis).body
@@ -179,7 +179,7 @@ commanded_right : (plan : Plan) (parts : Parts) (target : NodeName) (now : ℕ) 
     IsSound plan (commanded plan now command core).core → IsPartsOf (commanded plan now command core).core parts
     → IsRightBody plan parts target (commanded plan now command core).body
 commanded_right plan parts target now (IsMasterDownByAddr addr epoch candidate) core s t is =
-    asked_of_right plan parts target now addr epoch candidate (master_with_card core.kept.masters addr) core (card_within plan core addr s) t is
+    asked_of_right plan parts target now addr epoch (candidate_heeded plan candidate) (master_with_card core.kept.masters addr) core (card_within plan core addr s) t is
 commanded_right plan parts target now Ping core s t is = silent plan parts target (PingText false (codes "PONG")) refl refl refl refl
 commanded_right plan parts target now (GetMasterAddrByName name) core s t is = address_right plan core parts target (named plan name) is
 commanded_right plan parts target now Masters core s t is = reply_right plan core parts target (all_masters plan)
@@ -238,7 +238,7 @@ take_of_part plan core parts event most part few p is sound leads frames =
 input_by : (plan : Plan) (core : Core) (parts : Parts) (now : ℕ) (event : Event) → IsSoundPlan plan → IsSound plan (cleared core) → IsPartsOf core parts → IsWithinEvent event
     → IsTake plan core parts event (next_at plan now event (cleared core)).core (next_at plan now event (cleared core)).outputs
 input_by plan core parts now (Tick m random) p s is h =
-    take_of_part plan core parts (Tick m random) 3 (tick plan m random now (cleared core)) (omega arith) p is (tick_keeps plan m random now (cleared core) p s).sound
+    take_of_part plan core parts (Tick m random) 4 (tick plan m random now (cleared core)) (omega arith) p is (tick_keeps plan m random now (cleared core) p s).sound
     (tick_steps plan (Tick m random) m random now (cleared core) p s refl) (tick_frames plan m random now (cleared core))
 input_by plan core parts now (Commanded sender command) p s is h =
     let done : Answered = commanded plan now command (cleared core) in

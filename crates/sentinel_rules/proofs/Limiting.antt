@@ -1,6 +1,6 @@
 -- What is put out is within the limits.
 use Rattle.std.proofs.Common.{ℕ, Bool, true, false, Option, Some, None, List, [], ◌∷◌, map}
-use Rattle.std.specs.Prelude.{All, not, ◌&&◌, ◌||◌, if◌then◌else◌}
+use Rattle.std.specs.Prelude.{All, not, ◌&&◌, if◌then◌else◌}
 use Rattle.std.proofs.lemmas.List.Elements.{All-nil, All-cons}
 use Rattle.ballot_law.specs.declared.addresses.Addr.{Addr}
 use Rattle.ballot_law.specs.declared.addresses.RunId.{RunId}
@@ -19,13 +19,13 @@ use Rattle.sentinel_rules.specs.declared.frames.Frame.{Frame}
 use Rattle.sentinel_rules.specs.declared.frames.Frame.TheVariants.{PingTo, InfoTo, HelloTo, AskTo, PromoteTo, FollowTo, NoteOf, HandOverTo}
 use Rattle.port_answers.specs.Answers.{ok_line, in_progress, in_tilt, no_good_replica, command_fault}
 use Rattle.resp2.specs.declared.command.CommandFault.TheVariants.{UnknownCommand}
-use Rattle.sentinel_rules.specs.Profiles.{by_profile}
+use Rattle.sentinel_rules.specs.Profiles.{by_profile, candidate_heeded}
 use Rattle.sentinel_rules.specs.declared.profiles.Profile.{Profile}
 use Rattle.sentinel_rules.specs.declared.profiles.Profile.TheVariants.{Strict, Redis}
 use Rattle.sentinel_rules.specs.Plans.{Plan}
-use Rattle.sentinel_rules.specs.States.{Core, is_master_down, is_tilted, is_failing_over, is_wished}
+use Rattle.sentinel_rules.specs.States.{Core, is_master_down, is_tilted}
 use Rattle.sentinel_rules.specs.Parts.{output_of}
-use Rattle.sentinel_rules.specs.Answers.{commanded, asked_of, asked_at, master_with_card, about, named, Answered, unchanged, reply, has_heir, wished, asked_to_switch}
+use Rattle.sentinel_rules.specs.Answers.{commanded, asked_of, asked_at, master_with_card, about, named, Answered, unchanged, reply, is_engaged, has_heir, wished, asked_to_switch}
 use Rattle.sentinel_rules.specs.Takes.{next_at, part_of, cleared}
 use Rattle.sentinel_rules.specs.Facts.{IsSoundPlan, IsSound}
 use Rattle.ballot_law.specs.Limits.{IsWithinEvent}
@@ -83,7 +83,7 @@ switch_within plan m now false false false core = tt
 asked_switch_within : (plan : Plan) (now : ℕ) (m : Option ℕ) (core : Core) → IsWithinBody (asked_to_switch plan now m core).body
 asked_switch_within plan now None core = tt
 asked_switch_within plan now (Some m) core =
-    switch_within plan m now (is_failing_over core m || is_wished core m now) (is_tilted core) (has_heir plan core m now) core
+    switch_within plan m now (is_engaged plan core m now) (is_tilted core) (has_heir plan core m now) core
 
 either_within : (profile : Profile) (strict redis : Answered) → IsWithinBody strict.body → IsWithinBody redis.body → IsWithinBody (by_profile profile strict redis).body
 either_within Strict strict redis f g = f
@@ -91,7 +91,7 @@ either_within Redis strict redis f g = g
 
 answer_within : (plan : Plan) (now : ℕ) (c : Command) (core : Core) → IsWithinBody (commanded plan now c core).body
 answer_within plan now command.Ping core = tt
-answer_within plan now (command.IsMasterDownByAddr addr epoch candidate) core = asked_within plan now addr epoch candidate (master_with_card core.kept.masters addr) core
+answer_within plan now (command.IsMasterDownByAddr addr epoch candidate) core = asked_within plan now addr epoch (candidate_heeded plan candidate) (master_with_card core.kept.masters addr) core
 answer_within plan now (command.GetMasterAddrByName name) core = tt
 answer_within plan now command.Masters core = tt
 answer_within plan now (command.Master name) core = about_within core (named plan name) _ (λ m. tt)

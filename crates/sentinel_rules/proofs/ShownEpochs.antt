@@ -1,6 +1,6 @@
 -- The epochs of the votes and configurations that are shown.
 use Rattle.std.proofs.Common.{◌≤◌, ℕ, zero, suc, Bool, true, false, Option, Some, None, List, [], ◌∷◌, map, slice_index_or, arith}
-use Rattle.std.specs.Prelude.{All, not, ◌&&◌, ◌||◌, if◌then◌else◌}
+use Rattle.std.specs.Prelude.{All, not, ◌&&◌, if◌then◌else◌}
 use Rattle.std.specs.List.{AllZip, AllByRecursion}
 use Rattle.std.proofs.lemmas.List.Elements.{All-nil, All-cons}
 use Rattle.ballot_law.specs.declared.addresses.Addr.{Addr}
@@ -23,13 +23,13 @@ use Rattle.sentinel_rules.specs.declared.frames.Frame.{Frame}
 use Rattle.sentinel_rules.specs.declared.frames.Frame.TheVariants.{PingTo, InfoTo, HelloTo, AskTo, PromoteTo, FollowTo, NoteOf, HandOverTo}
 use Rattle.port_answers.specs.Answers.{ok_line, in_progress, in_tilt, no_good_replica, command_fault}
 use Rattle.resp2.specs.declared.command.CommandFault.TheVariants.{UnknownCommand}
-use Rattle.sentinel_rules.specs.Profiles.{by_profile}
+use Rattle.sentinel_rules.specs.Profiles.{by_profile, candidate_heeded}
 use Rattle.sentinel_rules.specs.declared.profiles.Profile.{Profile}
 use Rattle.sentinel_rules.specs.declared.profiles.Profile.TheVariants.{Strict, Redis}
 use Rattle.sentinel_rules.specs.Plans.{Plan}
-use Rattle.sentinel_rules.specs.States.{Core, is_master_down, is_tilted, is_failing_over, is_wished}
+use Rattle.sentinel_rules.specs.States.{Core, is_master_down, is_tilted}
 use Rattle.sentinel_rules.specs.Parts.{output_of, shown_of}
-use Rattle.sentinel_rules.specs.Answers.{commanded, asked_of, asked_at, address_of, master_with_card, about, named, all_masters, Answered, unchanged, reply, has_heir, wished, asked_to_switch}
+use Rattle.sentinel_rules.specs.Answers.{commanded, asked_of, asked_at, address_of, master_with_card, about, named, all_masters, Answered, unchanged, reply, is_engaged, has_heir, wished, asked_to_switch}
 use Rattle.sentinel_rules.specs.Takes.{next_at, part_of, cleared}
 use Rattle.sentinel_rules.specs.Limits.{EpochsAreWithin}
 use Rattle.ballot_law.specs.Limits.{HasEpochWithin, AnswersWithin, ShowsWithin}
@@ -110,7 +110,7 @@ switch_shows plan m now false false false core = tt
 asked_switch_shows : (plan : Plan) (now : ℕ) (m : Option ℕ) (core : Core) → AnswersWithin (asked_to_switch plan now m core).body
 asked_switch_shows plan now None core = tt
 asked_switch_shows plan now (Some m) core =
-    switch_shows plan m now (is_failing_over core m || is_wished core m now) (is_tilted core) (has_heir plan core m now) core
+    switch_shows plan m now (is_engaged plan core m now) (is_tilted core) (has_heir plan core m now) core
 
 either_shows : (profile : Profile) (strict redis : Answered) → AnswersWithin strict.body → AnswersWithin redis.body → AnswersWithin (by_profile profile strict redis).body
 either_shows Strict strict redis f g = f
@@ -118,7 +118,7 @@ either_shows Redis strict redis f g = g
 
 answer_shows : (plan : Plan) (now : ℕ) (c : Command) (core : Core) → IsKeptPart plan.conf (commanded plan now c core).core.kept → AnswersWithin (commanded plan now c core).body
 answer_shows plan now command.Ping core h = tt
-answer_shows plan now (command.IsMasterDownByAddr addr epoch candidate) core h = question_shows plan now addr epoch candidate (master_with_card core.kept.masters addr) core h
+answer_shows plan now (command.IsMasterDownByAddr addr epoch candidate) core h = question_shows plan now addr epoch (candidate_heeded plan candidate) (master_with_card core.kept.masters addr) core h
 answer_shows plan now (command.GetMasterAddrByName name) core h = address_shows plan core (named plan name) h
 answer_shows plan now command.Masters core h = shown_within plan core (all_masters plan) h
 answer_shows plan now (command.Master name) core h = about_shows core (named plan name) _ (λ m. shown_within plan core (m ∷ []) h)

@@ -1,6 +1,6 @@
 -- Each input keeps a core sound, and puts out few frames.
 use Rattle.std.proofs.Common.{ℕ, ◌≤◌, Bool, true, false, Option, Some, None, length, refl, arith, []}
-use Rattle.std.specs.Prelude.{if◌then◌else◌, not, ◌&&◌, ◌||◌}
+use Rattle.std.specs.Prelude.{if◌then◌else◌, not, ◌&&◌}
 use Rattle.ballot_law.specs.declared.addresses.Addr.{Addr}
 use Rattle.ballot_law.specs.declared.addresses.RunId.{RunId}
 use Rattle.ballot_law.specs.declared.cards.TheConstants.{MAX_EPOCH}
@@ -16,13 +16,13 @@ use Rattle.ballot_law.specs.Limits.{IsWithin}
 use Rattle.sentinel_rules.specs.declared.frames.TheConstants.{FRAMES_MAX}
 use Rattle.port_answers.specs.Answers.{ok_line, in_progress, in_tilt, no_good_replica, command_fault}
 use Rattle.resp2.specs.declared.command.CommandFault.TheVariants.{UnknownCommand}
-use Rattle.sentinel_rules.specs.Profiles.{by_profile}
+use Rattle.sentinel_rules.specs.Profiles.{by_profile, candidate_heeded}
 use Rattle.sentinel_rules.specs.declared.profiles.Profile.{Profile}
 use Rattle.sentinel_rules.specs.declared.profiles.Profile.TheVariants.{Strict, Redis}
 use Rattle.sentinel_rules.specs.Plans.{Plan}
-use Rattle.sentinel_rules.specs.States.{Core, is_tilted, is_master_down, master_of, is_failing_over, is_wished}
+use Rattle.sentinel_rules.specs.States.{Core, is_tilted, is_master_down, master_of}
 use Rattle.sentinel_rules.specs.Votes.{book_of, with_book, mark_for, requested}
-use Rattle.sentinel_rules.specs.Answers.{asked_at, asked_of, commanded, master_with_card, Answered, unchanged, reply, named, has_heir, wished, asked_to_switch}
+use Rattle.sentinel_rules.specs.Answers.{asked_at, asked_of, commanded, master_with_card, Answered, unchanged, reply, named, is_engaged, has_heir, wished, asked_to_switch}
 use Rattle.sentinel_rules.specs.Takes.{next_at, part_of, cleared}
 use Rattle.sentinel_rules.specs.Facts.{IsSoundPlan, IsSound}
 use Rattle.ballot_law.specs.Limits.{IsWithinEvent}
@@ -60,20 +60,20 @@ switch_sound : (plan : Plan) (m now : ℕ) (busy tilted heir : Bool) (core : Cor
 switch_sound plan m now true tilted heir core s = s
 switch_sound plan m now false true heir core s = s
 switch_sound plan m now false false true core s =
-    sound_master plan core m (record (master_of core m) { wish = Some now }) s
-    (λ lt. master_alike plan core.kept m (master_of core m) (record (master_of core m) { wish = Some now }) (s.each m lt) refl refl refl refl)
+    sound_master plan core m (record (master_of core m) { wish = Some now; planned = None }) s
+    (λ lt. master_alike plan core.kept m (master_of core m) (record (master_of core m) { wish = Some now; planned = None }) (s.each m lt) refl refl refl refl)
 switch_sound plan m now false false false core s = s
 
 switched_sound : (plan : Plan) (now : ℕ) (m : Option ℕ) (core : Core) → IsSound plan core → IsSound plan (asked_to_switch plan now m core).core
 switched_sound plan now None core s = s
-switched_sound plan now (Some m) core s = switch_sound plan m now (is_failing_over core m || is_wished core m now) (is_tilted core) (has_heir plan core m now) core s
+switched_sound plan now (Some m) core s = switch_sound plan m now (is_engaged plan core m now) (is_tilted core) (has_heir plan core m now) core s
 
 either_sound : (plan : Plan) (profile : Profile) (strict redis : Answered) → IsSound plan strict.core → IsSound plan redis.core → IsSound plan (by_profile profile strict redis).core
 either_sound plan Strict strict redis f g = f
 either_sound plan Redis strict redis f g = g
 
 pub commanded_sound : (plan : Plan) (now : ℕ) (command : Command) (core : Core) → IsWithin command → IsSound plan core → IsSound plan (commanded plan now command core).core
-commanded_sound plan now (IsMasterDownByAddr addr epoch candidate) core h s = asked_of_sound plan now addr epoch candidate (master_with_card core.kept.masters addr) core h s
+commanded_sound plan now (IsMasterDownByAddr addr epoch candidate) core h s = asked_of_sound plan now addr epoch (candidate_heeded plan candidate) (master_with_card core.kept.masters addr) core h s
 commanded_sound plan now Ping core h s = s
 commanded_sound plan now (GetMasterAddrByName name) core h s = s
 commanded_sound plan now Masters core h s = s

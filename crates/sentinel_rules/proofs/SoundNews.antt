@@ -35,9 +35,9 @@ use Rattle.sentinel_rules.specs.declared.frames.Frame.TheVariants.{FollowTo, Not
 use Rattle.ballot_law.specs.declared.node_places.NodePlace.{NodePlace}
 use Rattle.sentinel_rules.specs.declared.frames.Frame.{Frame}
 use Rattle.sentinel_rules.specs.Plans.{Plan, roster_of, group_size, master_count, settings_at, nodes_of, node_name, node_named}
-use Rattle.sentinel_rules.specs.States.{is_master_role, Core, MasterState, NodeState, master_of, node_of, peer_of, failover_of, card_place, is_failing_over, is_tilted, with_master, with_node, with_failover, with_card, is_handed, is_planned}
+use Rattle.sentinel_rules.specs.States.{is_master_role, Core, MasterState, NodeState, master_of, node_of, peer_of, failover_of, card_place, is_failing_over, is_tilted, with_master, with_node, with_failover, with_card, is_awaiting, is_at, is_planned}
 use Rattle.sentinel_rules.specs.Parts.{Part, quiet, puts, part_if, frame_if}
-use Rattle.sentinel_rules.specs.News.{hello_soon, relocated, at_same_address, at_new_address, card_taken, is_heeded, is_newer, raised_to, adopted, hello_of_known, hello_heeded, hello_read, reported, vote_heard, answer_of, answered, node_pinged, peer_pinged, pinged_at, pinged, node_lost, peer_lost, lost_at, connection_lost, disconnected, with_info, promotion, has_followed, reconfiguration, Wrong, wrong_of, can_be_followed, is_role_overdue, is_address_overdue, anew, correction, is_reconfiguring, judged, info_kept, info_at_node, info_of_node, info_read, closing_frames, with_frames, refusal_at, refusal_heard, peer_greeted, greeted_at, greeted, node_announced, announced_at}
+use Rattle.sentinel_rules.specs.News.{hello_soon, relocated, at_same_address, at_new_address, card_taken, is_heeded, is_newer, raised_to, adopted, hello_of_known, hello_heeded, hello_read, reported, vote_heard, answer_of, answered, node_pinged, peer_pinged, pinged_at, pinged, node_lost, peer_lost, lost_at, connection_lost, disconnected, with_info, promotion, has_followed, reconfiguration, Wrong, wrong_of, can_be_followed, is_role_overdue, is_address_overdue, anew, correction, is_reconfiguring, judged, info_kept, info_at_node, info_of_node, info_read, closing_frames, with_frames, order_taker, refusal_at, refusal_heard, peer_greeted, greeted_at, greeted, node_announced, announced_at}
 use Rattle.sentinel_rules.specs.Facts.{IsSound, IsAwaited, awaited}
 use Rattle.sentinel_rules.specs.Profiles.{is_redis, candidate_place}
 use Rattle.sentinel_rules.proofs.KeptParts.{kept_at, kept_with, kept_raised, other_entry}
@@ -278,12 +278,12 @@ pub disconnected_sound : (plan : Plan) (node : NodeName) (core : Core) → IsSou
 disconnected_sound plan node core s =
     sound_cond plan (is_redis plan.profile) (connection_lost plan node core) core (λ h. lost_sound plan node core s) (λ h. s)
 
--- Masters that refuse to hand over
+-- Nodes that refuse to hand over, or to be the master
 
 refusal_at_sound : (plan : Plan) (at : Option NodePlace) (core : Core) → IsSound plan core → IsSound plan (refusal_at plan at core)
 refusal_at_sound plan None core s = s
 refusal_at_sound plan (Some at) core s =
-    sound_cond plan (is_handed core at.master && (at.place == card_place plan core at.master))
+    sound_cond plan (is_awaiting (failover_of core at.master).state && is_at (order_taker plan core at.master) at.place)
     (with_master core at.master (record (master_of core at.master) { refused = true })) core
     (λ h. sound_master plan core at.master (record (master_of core at.master) { refused = true }) s
     (λ lt. master_alike plan core.kept at.master (master_of core at.master) (record (master_of core at.master) { refused = true }) (s.each at.master lt) refl refl refl refl))

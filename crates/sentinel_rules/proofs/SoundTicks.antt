@@ -1,5 +1,5 @@
 -- A tick keeps a core sound, and puts out few frames.
-use Rattle.std.proofs.Common.{◌≡◌, ℕ, zero, suc, ◌+◌, ◌*◌, ◌<◌, ◌≤◌, Bool, true, false, Option, Some, None, List, [], ◌∷◌, ◌++◌, length, slice_index_or, refl, sym, ap, subst, ◌∙◌, arith}
+use Rattle.std.proofs.Common.{◌≡◌, ℕ, zero, suc, ◌+◌, ◌*◌, ◌<◌, ◌≤◌, Bool, true, false, Option, Some, None, List, [], ◌∷◌, ◌++◌, length, slice_index_or, slice_set, refl, sym, ap, subst, ◌∙◌, arith}
 use Rattle.std.specs.Prelude.{IfSome, is_some, not, unwrap_or, nat_lt, nat_le, ◌==◌, ◌&&◌, if◌then◌else◌}
 use Rattle.std.proofs.lemmas.Bool.{ltb-true, leb-true}
 use Rattle.std.proofs.lemmas.List.{length-append, length-map}
@@ -15,8 +15,8 @@ use Rattle.failover_states.specs.declared.states.FailoverState.{FailoverState}
 use Rattle.failover_states.specs.declared.states.FailoverState.TheVariants.{Idle, WaitStart, SelectReplica, SendPromotion, WaitPromotion, ReconfReplicas, UpdateConfig}
 use Rattle.failover_states.specs.declared.states.Row.{Row}
 use Rattle.failover_states.specs.declared.states.Row.TheVariants.{StartFailover, Elected, Promote, PromotionTimeout}
-use Rattle.failover_states.specs.Calls.{epoch_of, choice_of as chosen_place}
-use Rattle.failover_states.specs.Failovers.{Failover}
+use Rattle.failover_states.specs.Calls.{epoch_of, choice_of as chosen_place, recalled, recalled_to}
+use Rattle.failover_states.specs.Failovers.{Failover, entering, ended}
 use Rattle.failover_states.specs.Known.{Known}
 use Rattle.failover_states.specs.Replicas.{unordered}
 use Rattle.failover_states.specs.Table.{Turn, turned, table, quieted, may_start, started, is_long_ago}
@@ -24,16 +24,19 @@ use Rattle.sentinel_rules.specs.declared.frames.Frame.{Frame}
 use Rattle.sentinel_rules.specs.declared.frames.TheConstants.{FRAMES_MAX}
 use Rattle.sentinel_rules.specs.declared.frames.Frame.TheVariants.{PingTo, InfoTo, HelloTo, FollowTo, AskTo, HandOverTo}
 use Rattle.sentinel_rules.specs.Plans.{Plan, me, group_size, master_count, nodes_of, node_name}
-use Rattle.sentinel_rules.specs.States.{Core, MasterState, NodeState, master_of, failover_of, is_idle, is_failing_over, is_tilted, is_odown_at, with_master, with_failover, with_current, is_wished, is_unrefused, card_place}
+use Rattle.sentinel_rules.specs.States.{Core, MasterState, NodeState, master_of, failover_of, is_idle, is_failing_over, is_tilted, is_odown_at, with_master, with_failover, with_current, is_wished, is_planned, is_unrefused, card_place}
 use Rattle.sentinel_rules.specs.Parts.{Part, quiet, puts, then_part, part_if, frame_if, changed_from, frames_from}
-use Rattle.sentinel_rules.specs.Profiles.{is_asking, election_ms, marked_at, marked, rest_of, rested_at, rested}
+use Rattle.sentinel_rules.specs.Profiles.{is_asking, election_ms, marked_at, marked, rest_of, rested_at, rested, awaited_up, disobeyed, with_failed, by_profile}
+use Rattle.sentinel_rules.specs.declared.profiles.Profile.{Profile}
+use Rattle.sentinel_rules.specs.declared.profiles.Profile.TheVariants.{Strict, Redis}
+use Rattle.sentinel_rules.specs.Endings.{is_vain, given_up, is_overtaken, taken_up, let_go}
 use Rattle.sentinel_rules.specs.Votes.{book_of, with_book, mark_for}
 use Rattle.sentinel_rules.specs.Contacts.{since_after}
-use Rattle.sentinel_rules.specs.Ticks.{is_peer_due, peer_after, peer_frames, peers_part, Sending, sending_of, is_ping_due, is_info_due, is_hello_due, node_after, node_frames, nodes_part, campaign_epoch, known_of, turn_of, with_vote, with_win, promote_frames, order_frames, row_part, after_start, is_start_due, start_turn, starts_now, start_part, is_ask_due, ask_candidate, ask_frames, ask_part, odown_part, failover_part, judging_part, master_part, with_reading, tick, planned_start, with_plan, planned_if, hands_over}
+use Rattle.sentinel_rules.specs.Ticks.{is_peer_due, peer_after, peer_frames, peers_part, Sending, sending_of, is_ping_due, is_info_due, is_hello_due, node_after, node_frames, nodes_part, campaign_epoch, known_of, turn_of, with_vote, with_win, promote_frames, order_frames, row_part, after_start, is_start_due, start_turn, starts_now, start_part, is_ask_due, ask_candidate, ask_frames, ask_part, odown_kept, odown_part, failover_part, judging_part, master_part, with_reading, tick, planned_start, with_plan, planned_if, hands_over}
 use Rattle.sentinel_rules.specs.Facts.{IsSoundPlan, IsSound, IsSoundMaster, IsAwaited, awaited}
 use Rattle.sentinel_rules.proofs.KeptParts.{kept_at, kept_with, kept_raised, other_entry, own_entry as own}
 use Rattle.sentinel_rules.proofs.Framing.{sound_at, sound_master, sound_current, sound_alike, master_with, nodes_with, master_later}
-use Rattle.sentinel_rules.proofs.Turns.{IsSoundFailover, turn_sound, turn_by}
+use Rattle.sentinel_rules.proofs.Turns.{IsSoundFailover, turn_sound, turn_by, ended_sound}
 use Rattle.sentinel_rules.proofs.Choices.{best_awaited}
 
 -- Parts
@@ -159,19 +162,59 @@ master_alike plan kept m master master2 s heard reports nodes failover =
       choice = subst (λ (f : Failover). IfSome (awaited f.state) (IsAwaited plan kept m)) (sym failover) s.choice;
     }
 
-pub odown_keeps : (plan : Plan) (m now : ℕ) (core : Core) → IsSound plan core → KeepsSound plan 0 (odown_part plan m now core)
-odown_keeps plan m now core s =
-    keeps_quiet
-    plan
-    0
-    (with_master core m found)
-    (sound_master plan core m found s (λ lt. master_alike plan core.kept m (master_of core m) found (s.each m lt) refl refl refl refl))
+judged_sound : (plan : Plan) (m now : ℕ) (core : Core) → IsSound plan core → IsSound plan (odown_kept plan m now core)
+judged_sound plan m now core s =
+    sound_master plan core m found s (λ lt. master_alike plan core.kept m (master_of core m) found (s.each m lt) refl refl refl refl)
   where
     found : MasterState
     found = record (master_of core m) {
       odown = is_odown_at plan core m now;
       odown_since = since_after (is_odown_at plan core m now) now (master_of core m).odown_since;
     }
+
+-- A failover that comes to nothing, or goes on in another way
+
+-- another failover of a master, and what is kept of its switches
+switched_sound : (plan : Plan) (core : Core) (m : ℕ) (failover : Failover) (planned : Option ℕ) (refused : Bool) → IsSound plan core
+    → (m < master_count plan → IsSoundFailover plan core.kept m failover)
+    → IsSound plan (with_master core m (record (master_of core m) { failover = failover; planned = planned; refused = refused }))
+switched_sound plan core m failover planned refused s f =
+    sound_master plan core m (record (master_of core m) { failover = failover; planned = planned; refused = refused }) s
+    (λ lt. let one : MasterState = record (master_of core m) { failover = failover } in
+    master_alike plan core.kept m one (record one { planned = planned; refused = refused })
+    (master_with plan core.kept m (master_of core m) failover (s.each m lt) ((f lt).replicas ∙ sym (s.each m lt).replicas) (f lt).epoch (f lt).choice)
+    refl refl refl refl)
+
+recalled_sound : (plan : Plan) (kept : Kept) (m now : ℕ) (state : FailoverState) (f : Failover) → length f.replicas ≡ length (nodes_of plan m)
+    → IfSome (epoch_of state) (λ epoch. epoch ≤ kept.current) → IfSome (awaited state) (IsAwaited plan kept m)
+    → IsSoundFailover plan kept m (entering (recalled_to state) now f)
+recalled_sound plan kept m now Idle f r e c = record { replicas = r; epoch = e; choice = c }
+recalled_sound plan kept m now (WaitStart epoch) f r e c = record { replicas = r; epoch = e; choice = c }
+recalled_sound plan kept m now (SelectReplica epoch) f r e c = record { replicas = r; epoch = e; choice = c }
+recalled_sound plan kept m now (SendPromotion epoch choice) f r e c = record { replicas = r; epoch = e; choice = c }
+recalled_sound plan kept m now (WaitPromotion epoch choice former) f r e c = record { replicas = r; epoch = e; choice = c }
+recalled_sound plan kept m now (ReconfReplicas epoch choice former) f r e c = record { replicas = r; epoch = e; choice = c }
+recalled_sound plan kept m now (UpdateConfig epoch choice) f r e c = record { replicas = r; epoch = e; choice = c }
+
+let_go_sound : (plan : Plan) (m now : ℕ) (core : Core) → IsSound plan core → IsSound plan (let_go plan m now core)
+let_go_sound plan m now core s = by_rule plan.profile (is_vain plan core m now) (is_overtaken plan core m now)
+  where
+    by_rule : (profile : Profile) (vain overtaken : Bool) →
+        IsSound plan (by_profile profile core (if vain then given_up plan m now core else (if overtaken then taken_up m now core else core)))
+    by_rule Strict vain overtaken = s
+    by_rule Redis true overtaken =
+        switched_sound plan core m (marked (rested_at plan core m now 0) (ended (failover_of core m)))
+        (if is_planned core m then None else (master_of core m).planned) (master_of core m).refused s
+        (λ lt. let f = ended_sound plan core.kept m (failover_of core m) (s.each m lt).replicas in
+        record { replicas = f.replicas; epoch = tt; choice = tt })
+    by_rule Redis false true =
+        switched_sound plan core m (recalled now (failover_of core m)) None false s
+        (λ lt. recalled_sound plan core.kept m now (failover_of core m).state (failover_of core m) (s.each m lt).replicas (s.each m lt).epoch (s.each m lt).choice)
+    by_rule Redis false false = s
+
+pub odown_keeps : (plan : Plan) (m now : ℕ) (core : Core) → IsSound plan core → KeepsSound plan 0 (odown_part plan m now core)
+odown_keeps plan m now core s =
+    keeps_quiet plan 0 (let_go plan m now (odown_kept plan m now core)) (let_go_sound plan m now (odown_kept plan m now core) (judged_sound plan m now core s))
 
 -- Votes
 
@@ -251,6 +294,13 @@ rested_sound plan m now (Some rest) core s =
     sound_failover plan core m (marked (rested_at plan core m now rest) (failover_of core m)) s
     (λ lt. let f = own_failover plan core m s lt in record { replicas = f.replicas; epoch = f.epoch; choice = f.choice })
 
+pub failed_sound : (plan : Plan) (m now : ℕ) (failed : Option ℕ) (core : Core) → IsSound plan core → IsSound plan (with_failed m now failed core)
+failed_sound plan m now None core s = s
+failed_sound plan m now (Some k) core s = sound_master plan core m passed_there s (λ lt. master_alike plan core.kept m (master_of core m) passed_there (s.each m lt) refl refl refl refl)
+  where
+    passed_there : MasterState
+    passed_there = record (master_of core m) { failed = slice_set (master_of core m).failed k (Some now) }
+
 -- The row of a failover
 
 vote_sound : (plan : Plan) (m now epoch : ℕ) (vote : Option RunId) (core : Core) → epoch ≤ MAX_EPOCH → IsSound plan core → IsSound plan (with_vote plan m now epoch vote core)
@@ -300,13 +350,15 @@ row_keeps plan m now core p lt busy s =
     let f : IsSoundFailover plan core.kept m turn.failover = turn_of_sound plan core m now p s lt busy in
     let promotes : List Frame = promote_frames plan core m (is_unrefused core m) (hands_over plan core m now) turn.row (chosen_place turn.failover.state) in
     let orders : List Frame = frames_from (order_frames plan m) 0 turn.failover.replicas in
+    let won : Core = with_win m epoch turn.row (with_vote plan m now epoch turn.vote (with_failover core m turn.failover)) in
+    let rest : Option ℕ = rest_of plan.profile turn.row (election_ms plan m) in
     record {
-      sound = rested_sound plan m now (rest_of plan.profile turn.row (election_ms plan m))
-          (with_win m epoch turn.row (with_vote plan m now epoch turn.vote (with_failover core m turn.failover)))
+      sound = failed_sound plan m now (disobeyed turn.row (awaited_up plan core m now)) (rested plan m now rest won)
+          (rested_sound plan m now rest won
           (win_sound plan m epoch turn.row (with_vote plan m now epoch turn.vote (with_failover core m turn.failover))
           (vote_sound plan m now epoch turn.vote (with_failover core m turn.failover)
           (campaign_within core.kept (epoch_of (failover_of core m).state) s.kept.current (s.each m lt).epoch)
-          (sound_failover plan core m turn.failover s (λ l. f))));
+          (sound_failover plan core m turn.failover s (λ l. f)))));
       few = let a : length promotes ≤ 1 = promote_few plan core m (is_unrefused core m) (hands_over plan core m now) turn.row (chosen_place turn.failover.state) in
           let b : length orders ≤ length turn.failover.replicas =
           one_each (order_frames plan m) (λ k replica. one_frame replica.ordered (FollowTo (node_name plan m k) m)) 0 turn.failover.replicas in
@@ -378,7 +430,7 @@ plan_sound plan m now core s =
   where
     planned_master : MasterState
     planned_master =
-        record (master_of core m) { wish = None; planned = planned_if (is_wished core m now) (epoch_of (failover_of core m).state); refused = false }
+        record (master_of core m) { planned = planned_if (is_wished core m now) (epoch_of (failover_of core m).state) (master_of core m).planned; refused = false }
 
 planned_sound : (plan : Plan) (m now : ℕ) (begins : Bool) (core : Core) → IsSound plan core → IsSound plan (if begins then with_plan m now core else core)
 planned_sound plan m now true core s = plan_sound plan m now core s

@@ -34,11 +34,11 @@ use Rattle.ballot_law.proofs.CountedVotes.{both}
 use Rattle.ballot_law.specs.declared.node_places.NodePlace.{NodePlace}
 use Rattle.ballot_law.specs.NodePlaces.{node_numbered}
 use Rattle.sentinel_rules.specs.Plans.{Plan, roster_of, me, group_size, master_count, settings_at, nodes_of, node_named}
-use Rattle.sentinel_rules.specs.States.{is_master_role, Core, MasterState, NodeState, master_of, node_of, peer_of, failover_of, card_place, is_failing_over, is_tilted, with_master, with_node, with_failover, with_current, with_card, is_handed, is_planned}
+use Rattle.sentinel_rules.specs.States.{is_master_role, Core, MasterState, NodeState, master_of, node_of, peer_of, failover_of, card_place, is_failing_over, is_tilted, with_master, with_node, with_failover, with_current, with_card, is_awaiting, is_at, is_planned}
 use Rattle.sentinel_rules.specs.Parts.{Part, quiet, puts, part_if}
-use Rattle.sentinel_rules.specs.Profiles.{is_redis, marked_at, marked, rested_at, rested, candidate_place}
+use Rattle.sentinel_rules.specs.Profiles.{is_redis, marked_at, marked, rested_at, rested, candidate_place, with_failed}
 use Rattle.sentinel_rules.specs.Votes.{book_of, with_book, mark_for, requested}
-use Rattle.sentinel_rules.specs.News.{at_same_address, at_new_address, card_taken, is_heeded, is_newer, raised_to, adopted, hello_of_known, hello_heeded, hello_read, reported, vote_heard, answer_of, answered, node_pinged, peer_pinged, pinged_at, pinged, node_lost, peer_lost, lost_at, connection_lost, disconnected, with_info, promotion, has_followed, reconfiguration, Wrong, wrong_of, can_be_followed, is_role_overdue, is_address_overdue, anew, correction, is_reconfiguring, judged, info_kept, info_at_node, info_of_node, info_read, closing_frames, with_frames, refusal_at, refusal_heard, peer_greeted, greeted_at, greeted, node_announced, announced_at}
+use Rattle.sentinel_rules.specs.News.{at_same_address, at_new_address, card_taken, is_heeded, is_newer, raised_to, adopted, hello_of_known, hello_heeded, hello_read, reported, vote_heard, answer_of, answered, node_pinged, peer_pinged, pinged_at, pinged, node_lost, peer_lost, lost_at, connection_lost, disconnected, with_info, promotion, has_followed, reconfiguration, Wrong, wrong_of, can_be_followed, is_role_overdue, is_address_overdue, anew, correction, is_reconfiguring, judged, info_kept, info_at_node, info_of_node, info_read, closing_frames, with_frames, order_taker, refusal_at, refusal_heard, peer_greeted, greeted_at, greeted, node_announced, announced_at}
 use Rattle.sentinel_rules.specs.Facts.{IsSound}
 use Rattle.sentinel_rules.specs.Steps.{campaign_in, IsOpenOf}
 use Rattle.sentinel_rules.proofs.Framing.{master_same, master_other}
@@ -105,6 +105,15 @@ pub rested_count : (plan : Plan) (m now : ℕ) (rest : Option ℕ) (core : Core)
 rested_count plan m now None core = refl
 rested_count plan m now (Some rest) core =
     length-set core.masters m (record (master_of core m) { failover = marked (rested_at plan core m now rest) (failover_of core m) })
+
+-- nor where a replica that didn't obey is kept
+pub failed_twin : (m now : ℕ) (failed : Option ℕ) (core : Core) → m < length core.masters → IsTwin m core (with_failed m now failed core) (campaign_in (failover_of core m).state)
+failed_twin m now None core lt = record { kept = refl; won = refl; count = refl; others = λ k apart. refl; heard = refl; runs = refl }
+failed_twin m now (Some k) core lt = twin_master core m (record (master_of core m) { failed = slice_set (master_of core m).failed k (Some now) }) lt refl
+
+pub failed_count : (m now : ℕ) (failed : Option ℕ) (core : Core) → length (with_failed m now failed core).masters ≡ length core.masters
+failed_count m now None core = refl
+failed_count m now (Some k) core = length-set core.masters m (record (master_of core m) { failed = slice_set (master_of core m).failed k (Some now) })
 
 granted : (b : Bool) (book : Book) (epoch : ℕ) (candidate : RunId) → b ≡ true →
     (if b then record { current = epoch; voted = epoch; leader = Some candidate } else raised book epoch) ≡ (let x : Book =
@@ -425,13 +434,13 @@ refusal_at_steps : (plan : Plan) (event : Event) (at : Option NodePlace) (core :
 refusal_at_steps plan event None core f s = stay_steps plan event 0 core
 refusal_at_steps plan event (Some at) core f s =
     let lt : at.master < length core.masters = within_core plan core at.master s (f at refl) in
-    steps_cond plan event 0 core (is_handed core at.master && (at.place == card_place plan core at.master))
+    steps_cond plan event 0 core (is_awaiting (failover_of core at.master).state && is_at (order_taker plan core at.master) at.place)
     (with_master core at.master (record (master_of core at.master) { refused = true })) core
     (λ h. twin_steps plan event 0 at.master core (with_master core at.master (record (master_of core at.master) { refused = true })) lt
     (twin_master core at.master (record (master_of core at.master) { refused = true }) lt refl))
     (λ h. stay_steps plan event 0 core)
 
--- nor is that a master refuses to hand over
+-- nor is that a node refuses to hand over, or to be the master
 pub refusal_steps : (plan : Plan) (event : Event) (node : NodeName) (core : Core) → IsSound plan core → StepsTo plan event 0 core (refusal_heard plan node core)
 refusal_steps plan event node core s =
     steps_cond plan event 0 core (is_redis plan.profile) (refusal_at plan (node_named plan node) core) core

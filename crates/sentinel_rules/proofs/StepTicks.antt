@@ -1,5 +1,5 @@
 -- A tick by steps of the ballot model.
-use Rattle.std.proofs.Common.{◌≡◌, ℕ, zero, suc, ◌+◌, ◌<◌, ◌≤◌, Bool, true, false, eqb, Option, Some, None, List, length, refl, sym, ap, subst, ◌∙◌, inl, inr, arith}
+use Rattle.std.proofs.Common.{◌≡◌, ℕ, zero, suc, ◌+◌, ◌<◌, ◌≤◌, Bool, true, false, eqb, Option, Some, None, List, length, length-set, refl, sym, ap, subst, ◌∙◌, inl, inr, arith}
 use Rattle.std.specs.Prelude.{Contains, IfSome, is_some, not, unwrap_or, nat_lt, nat_le, ◌&&◌, if◌then◌else◌}
 use Rattle.std.proofs.lemmas.Bool.{eqb-true, ltb-true, leb-true}
 use Rattle.std.proofs.lemmas.List.Folds.{list_any_at}
@@ -17,18 +17,21 @@ use Rattle.failover_states.specs.declared.states.FailoverState.{FailoverState}
 use Rattle.failover_states.specs.declared.states.FailoverState.TheVariants.{Idle, WaitStart, SelectReplica, SendPromotion, WaitPromotion, ReconfReplicas, UpdateConfig}
 use Rattle.failover_states.specs.declared.states.Row.{Row}
 use Rattle.failover_states.specs.declared.states.Row.TheVariants.{ReplicaChosen}
-use Rattle.failover_states.specs.Calls.{epoch_of}
+use Rattle.failover_states.specs.Calls.{epoch_of, recalled, recalled_to}
 use Rattle.failover_states.specs.Elections.{vote_in, is_elected}
-use Rattle.failover_states.specs.Failovers.{Failover}
+use Rattle.failover_states.specs.Failovers.{Failover, ended}
 use Rattle.failover_states.specs.Known.{Known}
 use Rattle.failover_states.specs.Table.{Turn, turned, turn_in, table, quieted, expiring, vote_of, chosen, started}
 use Rattle.sentinel_rules.specs.Plans.{Plan, roster_of, me, group_size, master_count, nodes_of}
-use Rattle.sentinel_rules.specs.States.{Core, MasterState, master_of, failover_of, is_failing_over, is_tilted, is_odown_at, with_master, with_failover, with_current, is_wished}
+use Rattle.sentinel_rules.specs.States.{Core, MasterState, master_of, failover_of, is_failing_over, is_tilted, is_odown_at, with_master, with_failover, with_current, is_planned, is_wished}
 use Rattle.sentinel_rules.specs.Parts.{Part, quiet, puts, then_part, part_if, changed_from, frames_from}
-use Rattle.sentinel_rules.specs.Profiles.{is_asking, election_ms, rest_of, rested}
+use Rattle.sentinel_rules.specs.Profiles.{is_asking, election_ms, rest_of, rested, awaited_up, disobeyed, with_failed, by_profile, marked, rested_at}
+use Rattle.sentinel_rules.specs.declared.profiles.Profile.{Profile}
+use Rattle.sentinel_rules.specs.declared.profiles.Profile.TheVariants.{Strict, Redis}
+use Rattle.sentinel_rules.specs.Endings.{is_vain, given_up, is_overtaken, taken_up, let_go}
 use Rattle.sentinel_rules.specs.Votes.{book_of, mark_for}
 use Rattle.sentinel_rules.specs.Contacts.{since_after}
-use Rattle.sentinel_rules.specs.Ticks.{peer_after, peers_part, sending_of, node_after, nodes_part, campaign_epoch, known_of, turn_of, with_vote, with_win, row_part, after_start, is_start_due, start_turn, starts_now, start_part, is_ask_due, ask_frames, ask_candidate, ask_part, odown_part, failover_part, judging_part, master_part, with_reading, tick, planned_start, with_plan, planned_if}
+use Rattle.sentinel_rules.specs.Ticks.{peer_after, peers_part, sending_of, node_after, nodes_part, campaign_epoch, known_of, turn_of, with_vote, with_win, row_part, after_start, is_start_due, start_turn, starts_now, start_part, is_ask_due, ask_frames, ask_candidate, ask_part, odown_kept, odown_part, failover_part, judging_part, master_part, with_reading, tick, planned_start, with_plan, planned_if}
 use Rattle.sentinel_rules.specs.Facts.{IsSoundPlan, IsSound, IsAwaited}
 use Rattle.sentinel_rules.specs.Steps.{campaign_in, IsOpenOf, IsPartsOf}
 use Rattle.sentinel_rules.proofs.KeptParts.{own_entry}
@@ -39,7 +42,7 @@ use Rattle.sentinel_rules.proofs.Turns.{Best, turn_by, turn_vote}
 use Rattle.sentinel_rules.proofs.Choices.{same_addr-same, best_awaited}
 use Rattle.sentinel_rules.proofs.SoundTicks.{keeps_if, row_keeps, busy_is, idle_is, as_idle, start_within, start_keeps, peers_keeps, nodes_keeps, odown_keeps, start_sound}
 use Rattle.sentinel_rules.proofs.StepsTo.{StepsTo, steps_then, steps_more, kept_as, IsTwin, twin_then, twin_steps, twin_master, twin_state, same_steps, drop_steps, choose_steps, win_steps, open_steps, voted_core, cast_steps}
-use Rattle.sentinel_rules.proofs.StepNews.{stay_steps, steps_if, within_core, mark_twin, rested_twin, rested_count, voted_is}
+use Rattle.sentinel_rules.proofs.StepNews.{stay_steps, steps_if, within_core, mark_twin, rested_twin, rested_count, failed_twin, failed_count, voted_is}
 
 -- Votes that are counted
 
@@ -344,8 +347,10 @@ module _ (plan : Plan) (event : Event) (m now : ℕ) (core : Core) (p : IsSoundP
   -- a vote at most, and a step of the campaign at most
   pub row_steps : ((failover_of core m).state ≡ Idle → ⊥) → StepsTo plan event 2 core (row_part plan m now core).core
   row_steps busy =
-      steps_then plan event 2 0 core won (row_part plan m now core).core (turn_by_state (failover_of core m).state refl busy)
-      (twin_steps plan event 0 m won (rested plan m now rest won) won_lt (rested_twin plan m now rest won won_lt))
+      steps_then plan event 2 0 core rests (row_part plan m now core).core
+      (steps_then plan event 2 0 core won rests (turn_by_state (failover_of core m).state refl busy)
+      (twin_steps plan event 0 m won rests won_lt (rested_twin plan m now rest won won_lt)))
+      (twin_steps plan event 0 m rests (with_failed m now failed rests) rests_lt (failed_twin m now failed rests rests_lt))
     where
       turn : Turn
       turn = turn_of plan core m now false
@@ -357,9 +362,19 @@ module _ (plan : Plan) (event : Event) (m now : ℕ) (core : Core) (p : IsSoundP
       won : Core
       won = with_win m (campaign_epoch core m) turn.row (with_vote plan m now (campaign_epoch core m) turn.vote (with_failover core m turn.failover))
 
-      won_lt : m < length won.masters
-      won_lt = subst (λ (n : ℕ). m < n) (rested_count plan m now rest won)
+      -- and before the replica that didn't obey is kept
+      rests : Core
+      rests = rested plan m now rest won
+
+      failed : Option ℕ
+      failed = disobeyed turn.row (awaited_up plan core m now)
+
+      rests_lt : m < length rests.masters
+      rests_lt = subst (λ (n : ℕ). m < n) (failed_count m now failed rests)
           (within_core plan (row_part plan m now core).core m (row_keeps plan m now core p inside busy s).sound inside)
+
+      won_lt : m < length won.masters
+      won_lt = subst (λ (n : ℕ). m < n) (rested_count plan m now rest won) rests_lt
 
 -- A start
 
@@ -399,7 +414,7 @@ planned_steps : (plan : Plan) (event : Event) (m now : ℕ) (begins : Bool) (cor
     StepsTo plan event 0 core (if begins then with_plan m now core else core)
 planned_steps plan event m now true core within =
     twin_steps plan event 0 m core (with_plan m now core) within
-    (twin_master core m (record (master_of core m) { wish = None; planned = planned_if (is_wished core m now) (epoch_of (failover_of core m).state); refused = false }) within refl)
+    (twin_master core m (record (master_of core m) { planned = planned_if (is_wished core m now) (epoch_of (failover_of core m).state) (master_of core m).planned; refused = false }) within refl)
 planned_steps plan event m now false core within = stay_steps plan event 0 core
 
 starts_steps : (plan : Plan) (event : Event) (m now : ℕ) (core : Core) → IsSound plan core → m < master_count plan → StepsTo plan event 1 core (start_part plan m now core).core
@@ -431,6 +446,19 @@ start_won plan m now core =
     after = won_either (is_some (start_turn plan core m now).row) (with_current (with_failover core m (start_turn plan core m now).failover) (core.kept.current + 1))
         (with_failover core m (start_turn plan core m now).failover) core refl refl
 
+odown_won : (plan : Plan) (m now : ℕ) (core : Core) → (odown_part plan m now core).core.won ≡ core.won
+odown_won plan m now core = by_rule plan.profile (is_vain plan kept m now) (is_overtaken plan kept m now)
+  where
+    kept : Core
+    kept = odown_kept plan m now core
+
+    by_rule : (profile : Profile) (vain overtaken : Bool) →
+        (by_profile profile kept (if vain then given_up plan m now kept else (if overtaken then taken_up m now kept else kept))).won ≡ core.won
+    by_rule Strict vain overtaken = refl
+    by_rule Redis true overtaken = refl
+    by_rule Redis false true = refl
+    by_rule Redis false false = refl
+
 peers_won : (plan : Plan) (m now : ℕ) (core : Core) → (peers_part plan m now core).core.won ≡ core.won
 peers_won plan zero now core = refl
 peers_won plan (suc m) now core = refl
@@ -446,13 +474,53 @@ nodes_steps plan event m now core lt =
     let new : MasterState = record (master_of core m) { nodes = changed_from (node_after (sending_of plan core m now)) 0 (master_of core m).nodes } in
     twin_steps plan event 0 m core (with_master core m new) lt (twin_master core m new lt refl)
 
-odown_steps : (plan : Plan) (event : Event) (m now : ℕ) (core : Core) → m < length core.masters → StepsTo plan event 0 core (odown_part plan m now core).core
-odown_steps plan event m now core lt =
+judged_steps : (plan : Plan) (event : Event) (m now : ℕ) (core : Core) → m < length core.masters → StepsTo plan event 0 core (odown_kept plan m now core)
+judged_steps plan event m now core lt =
     let new : MasterState = record (master_of core m) {
       odown = is_odown_at plan core m now;
       odown_since = since_after (is_odown_at plan core m now) now (master_of core m).odown_since;
     } in
     twin_steps plan event 0 m core (with_master core m new) lt (twin_master core m new lt refl)
+
+recalled_runs : (state : FailoverState) → campaign_in (recalled_to state) ≡ campaign_in state
+recalled_runs Idle = refl
+recalled_runs (WaitStart epoch) = refl
+recalled_runs (SelectReplica epoch) = refl
+recalled_runs (SendPromotion epoch choice) = refl
+recalled_runs (WaitPromotion epoch choice former) = refl
+recalled_runs (ReconfReplicas epoch choice former) = refl
+recalled_runs (UpdateConfig epoch choice) = refl
+
+-- a failover that comes to nothing ends by one step
+let_go_steps : (plan : Plan) (event : Event) (m now : ℕ) (core : Core) → m < length core.masters → m < master_count plan → StepsTo plan event 1 core (let_go plan m now core)
+let_go_steps plan event m now core lt inside = by_rule plan.profile (is_vain plan core m now) (is_overtaken plan core m now)
+  where
+    ended_master : MasterState
+    ended_master =
+        record (master_of core m) {
+          failover = marked (rested_at plan core m now 0) (ended (failover_of core m));
+          planned = if is_planned core m then None else (master_of core m).planned;
+        }
+
+    recalled_master : MasterState
+    recalled_master = record (master_of core m) { failover = recalled now (failover_of core m); planned = None; refused = false }
+
+    by_rule : (profile : Profile) (vain overtaken : Bool) →
+        StepsTo plan event 1 core (by_profile profile core (if vain then given_up plan m now core else (if overtaken then taken_up m now core else core)))
+    by_rule Strict vain overtaken = stay_steps plan event 1 core
+    by_rule Redis true overtaken = drop_steps plan event m core (with_master core m ended_master) lt inside (twin_master core m ended_master lt refl)
+    by_rule Redis false true =
+        twin_steps plan event 1 m core (with_master core m recalled_master) lt
+        (twin_state m core (with_master core m recalled_master) (campaign_in (recalled_to (failover_of core m).state)) (campaign_in (failover_of core m).state)
+        (recalled_runs (failover_of core m).state)
+        (twin_master core m recalled_master lt refl))
+    by_rule Redis false false = stay_steps plan event 1 core
+
+odown_steps : (plan : Plan) (event : Event) (m now : ℕ) (core : Core) → m < length core.masters → m < master_count plan →
+    StepsTo plan event 1 core (odown_part plan m now core).core
+odown_steps plan event m now core lt inside =
+    steps_then plan event 0 1 core (odown_kept plan m now core) (let_go plan m now (odown_kept plan m now core)) (judged_steps plan event m now core lt)
+    (let_go_steps plan event m now (odown_kept plan m now core) (subst (λ (n : ℕ). m < n) (sym (length-set core.masters m _)) lt) inside)
 
 ask_steps : (plan : Plan) (event : Event) (m now : ℕ) (started : Bool) (core : Core) → m < length core.masters → StepsTo plan event 0 core (ask_part plan m now started core).core
 ask_steps plan event m now started core lt =
@@ -482,20 +550,20 @@ failover_steps plan event m now core p s inside none =
         (λ h. row_keeps plan m now begun p inside (busy_is (failover_of begun m).state h) (start_keeps plan m now core s).sound)).sound
 
 judging_steps : (plan : Plan) (event : Event) (m now : ℕ) (core : Core) → IsSoundPlan plan → IsSound plan core → m < master_count plan → core.won ≡ None →
-    StepsTo plan event 3 core (judging_part plan m now core).core
+    StepsTo plan event 4 core (judging_part plan m now core).core
 judging_steps plan event m now core p s inside none =
-    steps_if plan event 3 (not (is_tilted core)) core (λ c. then_part (odown_part plan m now c) (failover_part plan m now))
-    (λ h. steps_then plan event 0 3 core judged (failover_part plan m now judged).core
-    (odown_steps plan event m now core (within_core plan core m s inside))
-    (failover_steps plan event m now judged p (odown_keeps plan m now core s).sound inside none))
+    steps_if plan event 4 (not (is_tilted core)) core (λ c. then_part (odown_part plan m now c) (failover_part plan m now))
+    (λ h. steps_then plan event 1 3 core first (failover_part plan m now first).core
+    (odown_steps plan event m now core (within_core plan core m s inside) inside)
+    (failover_steps plan event m now first p (odown_keeps plan m now core s).sound inside (odown_won plan m now core ∙ none)))
   where
-    judged : Core
-    judged = (odown_part plan m now core).core
+    first : Core
+    first = (odown_part plan m now core).core
 
 master_steps : (plan : Plan) (event : Event) (m now : ℕ) (core : Core) → IsSoundPlan plan → IsSound plan core → m < master_count plan → core.won ≡ None →
-    StepsTo plan event 3 core (master_part plan m now core).core
+    StepsTo plan event 4 core (master_part plan m now core).core
 master_steps plan event m now core p s inside none =
-    steps_then plan event 0 3 core sent (master_part plan m now core).core
+    steps_then plan event 0 4 core sent (master_part plan m now core).core
     (steps_then plan event 0 0 core asked_peers sent (peers_steps plan event m now core)
     (nodes_steps plan event m now asked_peers (within_core plan asked_peers m asked_sound inside)))
     (judging_steps plan event m now sent p (nodes_keeps plan m now asked_peers p inside asked_sound).sound inside (peers_won plan m now core ∙ none))
@@ -510,10 +578,10 @@ master_steps plan event m now core p s inside none =
     sent = (nodes_part plan m now asked_peers).core
 
 pub tick_steps : (plan : Plan) (event : Event) (m random now : ℕ) (core : Core) → IsSoundPlan plan → IsSound plan core → core.won ≡ None →
-    StepsTo plan event 3 core (tick plan m random now core).core
+    StepsTo plan event 4 core (tick plan m random now core).core
 tick_steps plan event m random now core p s none =
-    steps_then plan event 0 3 core (with_reading now random core) (tick plan m random now core).core
+    steps_then plan event 0 4 core (with_reading now random core) (tick plan m random now core).core
     (same_steps plan event 0 core (with_reading now random core) refl refl refl)
-    (steps_if plan event 3 (nat_lt m (master_count plan)) (with_reading now random core) (master_part plan m now)
+    (steps_if plan event 4 (nat_lt m (master_count plan)) (with_reading now random core) (master_part plan m now)
     (λ h. master_steps plan event m now (with_reading now random core) p (sound_alike plan core (with_reading now random core) refl refl refl s) (ltb-true m (master_count plan) h)
     none))

@@ -7,12 +7,13 @@ use Rattle.std.specs.Str.{is_utf8, chars}
 use Rattle.ballot_law.specs.Words.{hex}
 use Rattle.failover_states.specs.Replicas.{told, is_due, is_next}
 use Rattle.sentinel_rules.specs.States.{is_unrefused}
+use Rattle.sentinel_rules.specs.Endings.{is_split_in}
 use Rattle.sentinel_rules.specs.Ticks.{hands_over}
-use Rattle.sentinel_rules.specs.Worked.{OneVoteAnEpoch, QuestionsRaiseNothing, NothingOfNobody, VoteAfterARestart, ShortAnswers, InfoInBytes, AFailover, FailoverGoesOn, ATickInFull, HelloInBytes, VotesOfAnotherEpoch, VoteThatWasNotStored, NoEpochIsLeft, AdoptionEndsAFailover, OnlyNewerIsAdopted, NothingIsJudgedInTilt, AVoteDelaysTheOwnCampaign, ReplicasOneByOne, AFormerMasterFollows, AReplicaOfAnotherFollows, ShownInAFailover, ASwitchForgetsTheStart, ALostCandidateHoldsNobodyBack, APlannedSwitch, ASwitchAtTheNodes}
+use Rattle.sentinel_rules.specs.Worked.{OneVoteAnEpoch, QuestionsRaiseNothing, NothingOfNobody, VoteAfterARestart, ShortAnswers, InfoInBytes, AFailover, FailoverGoesOn, ATickInFull, HelloInBytes, VotesOfAnotherEpoch, VoteThatWasNotStored, NoEpochIsLeft, AdoptionEndsAFailover, OnlyNewerIsAdopted, NothingIsJudgedInTilt, AVoteDelaysTheOwnCampaign, ReplicasOneByOne, AFormerMasterFollows, AReplicaOfAnotherFollows, ShownInAFailover, ASwitchForgetsTheStart, ALostCandidateHoldsNobodyBack, AGhostGetsNoVote, WhoRefusesIsPassedOver, APlannedSwitch, ASwitchAtTheNodes}
 
 -- what is unfolded to compute texts and failovers that are written out
 unfoldable pub on_literals : ⊤
-unfolding is_unrefused hands_over told is_due is_next is_utf8 chars encode digits hex
+unfolding is_unrefused hands_over is_split_in told is_due is_next is_utf8 chars encode digits hex
 on_literals = tt
 
 pub one_vote_an_epoch : OneVoteAnEpoch
@@ -100,6 +101,14 @@ a_switch_forgets_the_start = record { strict_info = refl; redis_info = refl; str
 pub a_lost_candidate_holds_nobody_back : ALostCandidateHoldsNobodyBack
 unfolding on_literals
 a_lost_candidate_holds_nobody_back = refl
+
+pub a_ghost_gets_no_vote : AGhostGetsNoVote
+unfolding on_literals
+a_ghost_gets_no_vote = record { strict = refl; redis = refl }
+
+pub who_refuses_is_passed_over : WhoRefusesIsPassedOver
+unfolding on_literals
+who_refuses_is_passed_over = record { strict = refl; redis = refl }
 
 pub replicas_one_by_one : ReplicasOneByOne
 unfolding on_literals

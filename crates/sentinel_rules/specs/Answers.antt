@@ -27,9 +27,9 @@ use Rattle.port_answers.specs.InfoLines.{section_frame}
 use Rattle.port_answers.specs.Answers.{no_such_master, ok_line, in_progress, in_tilt, no_good_replica, id_frame, subscribed, command_fault}
 use Rattle.sentinel_rules.specs.declared.assumed.TheConstants.{ASSUMED_INFO}
 use Rattle.sentinel_rules.specs.Plans.{Plan, roster_of, me, group_size, master_count, settings_at, nodes_of, addr_at}
-use Rattle.sentinel_rules.specs.States.{Core, master_of, node_of, peer_of, with_master, card_place, is_failing_over, is_tilted, is_wished, is_node_down, is_master_down, is_peer_down, is_odown_at, failover_of, node_down_since, peer_down_since}
+use Rattle.sentinel_rules.specs.States.{Core, master_of, node_of, peer_of, with_master, card_place, is_failing_over, is_in_progress, is_put_off, is_tilted, is_node_down, is_master_down, is_peer_down, is_odown_at, failover_of, node_down_since, peer_down_since}
 use Rattle.sentinel_rules.specs.Parts.{shown_of}
-use Rattle.sentinel_rules.specs.Profiles.{by_profile, down_for}
+use Rattle.sentinel_rules.specs.Profiles.{by_profile, candidate_heeded, down_for}
 use Rattle.sentinel_rules.specs.Rows.{contact_row, said_row, link_row, stage_of, heard_leader, heard_epoch, is_left_out, places_told, master_frame_by, masters_frame_by, replicas_frame_by, sentinels_frame_by, quorum_reached_by, no_quorum_by}
 use Rattle.sentinel_rules.specs.Ticks.{candidates_of, ping_period}
 use Rattle.sentinel_rules.specs.Votes.{book_of, requested}
@@ -207,14 +207,18 @@ may_take_over c = (not c.sdown && nat_lt 0 c.priority) && is_some c.last_info
 abbrev pub has_heir : Plan → Core → (m now : ℕ) → Bool
 has_heir plan core m now = list_any may_take_over (candidates_of plan core m now)
 
+-- no switch may be asked for now; one that nobody could take over isn't put off
+abbrev pub is_engaged : Plan → Core → (m now : ℕ) → Bool
+is_engaged plan core m now = is_in_progress core m now || (is_put_off core m now && has_heir plan core m now)
+
 -- the campaign is to begin at the next tick
 abbrev pub wished : (m now : ℕ) → Core → Core
-wished m now core = with_master core m (record (master_of core m) { wish = Some now })
+wished m now core = with_master core m (record (master_of core m) { wish = Some now; planned = None })
 
--- one at a time, and none that could come to nothing from the outset
+-- one at a time, another one after ten seconds, and none that could come to nothing from the outset
 abbrev pub switch_at : Plan → (m now : ℕ) → Core → Answered
 switch_at plan m now core =
-    if is_failing_over core m || is_wished core m now then unchanged core (reply core [] in_progress)
+    if is_engaged plan core m now then unchanged core (reply core [] in_progress)
     else (if is_tilted core then unchanged core (reply core [] in_tilt)
     else (if has_heir plan core m now then record { core = wished m now core; body = reply core [] ok_line }
     else unchanged core (reply core [] no_good_replica)))
@@ -227,7 +231,7 @@ asked_to_switch plan now (Some m) core = switch_at plan m now core
 abbrev pub commanded : Plan → (now : ℕ) → Command → Core → Answered
 commanded plan now Ping core = unchanged core (PingText false (codes "PONG"))
 commanded plan now (IsMasterDownByAddr addr epoch candidate) core =
-    asked_of plan now addr epoch candidate (master_with_card core.kept.masters addr) core
+    asked_of plan now addr epoch (candidate_heeded plan candidate) (master_with_card core.kept.masters addr) core
 commanded plan now (GetMasterAddrByName name) core = unchanged core (AddressAnswer (address_of core (named plan name)))
 commanded plan now Masters core =
     unchanged core (reply core (all_masters plan) (masters_frame_by plan.profile (map (master_row plan core now) (all_masters plan))))

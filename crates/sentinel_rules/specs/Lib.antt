@@ -4,6 +4,7 @@ pub mod States
 pub mod Parts
 pub mod Profiles
 pub mod Votes
+pub mod Endings
 pub mod Ticks
 pub mod News
 pub mod Rows

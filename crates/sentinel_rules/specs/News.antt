@@ -21,7 +21,7 @@ use Rattle.ballot_law.specs.VotesHeard.{with_hearing}
 use Rattle.failover_states.specs.declared.states.FailoverState.{FailoverState}
 use Rattle.failover_states.specs.declared.states.FailoverState.TheVariants.{Idle, WaitStart, SelectReplica, SendPromotion, WaitPromotion, ReconfReplicas, UpdateConfig}
 use Rattle.failover_states.specs.Failovers.{ended}
-use Rattle.failover_states.specs.Calls.{promoted, reconfigured}
+use Rattle.failover_states.specs.Calls.{promoted, reconfigured, choice_of as chosen_place}
 use Rattle.node_texts.specs.declared.faults.TextFault.{TextFault}
 use Rattle.sentinel_rules.specs.declared.periods.TheConstants.{WRONG_ROLE_MS}
 use Rattle.sentinel_rules.specs.declared.profiles.Profile.{Profile}
@@ -29,7 +29,7 @@ use Rattle.sentinel_rules.specs.declared.frames.Frame.{Frame}
 use Rattle.sentinel_rules.specs.declared.frames.Frame.TheVariants.{PromoteTo, FollowTo, NoteOf}
 use Rattle.ballot_law.specs.declared.node_places.NodePlace.{NodePlace}
 use Rattle.sentinel_rules.specs.Plans.{Plan, roster_of, me, group_size, master_count, settings_at, nodes_of, node_name, node_named}
-use Rattle.sentinel_rules.specs.States.{Core, is_master_role, says_master, MasterState, NodeState, PeerState, master_of, node_of, peer_of, failover_of, card_place, is_failing_over, is_tilted, is_planned, is_handed, is_master_down, with_master, with_node, with_failover, with_current, with_card}
+use Rattle.sentinel_rules.specs.States.{Core, is_master_role, says_master, MasterState, NodeState, PeerState, master_of, node_of, peer_of, failover_of, card_place, is_failing_over, is_tilted, is_planned, is_awaiting, is_at, is_master_down, with_master, with_node, with_failover, with_current, with_card}
 use Rattle.sentinel_rules.specs.Parts.{Part, quiet, puts, part_if, frame_if}
 use Rattle.sentinel_rules.specs.Contacts.{new_contact, contact_replied, role_since_after}
 use Rattle.sentinel_rules.specs.Profiles.{by_profile, is_redis, start_at_new_address, candidate_place}
@@ -57,12 +57,18 @@ relocated profile now node = by_profile profile (moved now node) (forgotten now 
 abbrev pub at_same_address : MasterState → MasterState
 at_same_address master = record master { nodes = map hello_soon master.nodes }
 
+-- a switch that was asked for, and not begun, is another one's
+abbrev pub wish_kept : (planned wish : Option ℕ) → Option ℕ
+wish_kept None wish = None
+wish_kept (Some epoch) wish = wish
+
 abbrev pub at_new_address : Profile → (now : ℕ) → MasterState → MasterState
 at_new_address profile now master =
     record master {
       nodes = map (relocated profile now) master.nodes;
       reports = without_reports master.reports;
       failover = record master.failover { last_start = start_at_new_address profile master.failover.last_start };
+      wish = wish_kept master.planned master.wish;
     }
 
 -- the hellos are due at once; where the address changes too, what was said of the old one is forgotten, by the profile when this Sentinel last began too, and a
@@ -211,16 +217,20 @@ connection_lost plan (PortAt number) core = core
 abbrev pub disconnected : Plan → (node : NodeName) → Core → Core
 disconnected plan node core = if is_redis plan.profile then connection_lost plan node core else core
 
--- Masters that refuse to hand over
+-- Nodes that refuse to hand over, or to be the master
+
+-- who was told to bring the new master about: in a switch that was asked for the master, else the choice
+abbrev pub order_taker : Plan → Core → (m : ℕ) → Option ℕ
+order_taker plan core m = if is_planned core m then Some (card_place plan core m) else chosen_place (failover_of core m).state
 
 abbrev pub refusal_at : Plan → Option NodePlace → Core → Core
 refusal_at plan None core = core
 refusal_at plan (Some at) core =
-    if is_handed core at.master && (at.place == card_place plan core at.master)
+    if is_awaiting (failover_of core at.master).state && is_at (order_taker plan core at.master) at.place
     then with_master core at.master (record (master_of core at.master) { refused = true })
     else core
 
--- the master that a failover told to hand over answered with an error: the failover ends at the next tick
+-- it answered with an error: the failover ends at the next tick
 abbrev pub refusal_heard : Plan → (node : NodeName) → Core → Core
 refusal_heard plan node core = if is_redis plan.profile then refusal_at plan (node_named plan node) core else core
 

@@ -1,12 +1,11 @@
--- Where the profiles differ, rule by rule: the strict rule, and Redis's with its reason. None of them is about who is voted for, what elects, or which
--- configuration is taken; they say from when on a campaign may begin, for how long a failover waits, and which replicas count.
-use Rattle.std.specs.Prelude.{ℕ, zero, suc, ◌+◌, ◌*◌, ◌/◌, ◌%◌, max, min, Bool, true, false, not, ◌&&◌, ◌||◌, nat_lt, nat_le, ◌==◌, is_some, unwrap_or, Option, Some, None, length, position, if◌then◌else◌}
-use Rattle.ballot_law.specs.declared.addresses.Addr.{Addr}
+-- Where the profiles differ, rule by rule: the strict rule, and Redis's with its reason. None of them is about what elects, or which configuration is taken; they say
+-- who gets no vote, from when on a campaign may begin, for how long a failover waits, and which replicas count.
+use Rattle.std.specs.Prelude.{ℕ, zero, suc, ◌+◌, ◌*◌, ◌/◌, ◌%◌, max, min, Bool, true, false, not, ◌&&◌, ◌||◌, nat_lt, nat_le, ◌==◌, is_some, unwrap_or, Option, Some, None, length, position, slice_index_or, slice_set, if◌then◌else◌}
 use Rattle.ballot_law.specs.declared.addresses.RunId.{RunId}
 use Rattle.ballot_law.specs.declared.replies.Info.{Info}
 use Rattle.ballot_law.specs.Ballots.{kept_of}
 use Rattle.ballot_law.specs.Clocks.{age, clock}
-use Rattle.ballot_law.specs.Orders.{same_addr, same_id}
+use Rattle.ballot_law.specs.Orders.{same_id}
 use Rattle.ballot_law.specs.Watches.{down_since_of}
 use Rattle.failover_states.specs.declared.periods.TheConstants.{ELECTION_MS, SPREAD_MS}
 use Rattle.failover_states.specs.declared.states.FailoverState.{FailoverState}
@@ -16,11 +15,11 @@ use Rattle.failover_states.specs.declared.states.Row.TheVariants.{ElectionTimeou
 use Rattle.failover_states.specs.Calls.{choice_of}
 use Rattle.failover_states.specs.Failovers.{Failover}
 use Rattle.sentinel_rules.specs.declared.assumed.TheConstants.{ASSUMED_INFO}
-use Rattle.sentinel_rules.specs.declared.periods.TheConstants.{HANDED_MS, HOLD_MS, LINK_MAX_S, QUIET_MS, SWITCHED_MS}
+use Rattle.sentinel_rules.specs.declared.periods.TheConstants.{HANDED_MS, LINK_MAX_S, LOOKED_MS, QUIET_MS, SWITCHED_MS}
 use Rattle.sentinel_rules.specs.declared.profiles.Profile.{Profile}
 use Rattle.sentinel_rules.specs.declared.profiles.Profile.TheVariants.{Strict, Redis}
 use Rattle.sentinel_rules.specs.Plans.{Plan, roster_of, group_size, settings_at, nodes_of}
-use Rattle.sentinel_rules.specs.States.{Core, NodeState, master_of, node_of, peer_of, failover_of, with_failover, card_place, is_idle, is_handed, says_master, says_replica, node_down_since, is_node_down, is_master_down}
+use Rattle.sentinel_rules.specs.States.{Core, NodeState, master_of, node_of, peer_of, failover_of, with_failover, with_master, card_place, is_idle, is_planned, is_refused, is_handed, says_master, says_replica, node_down_since, is_node_down, is_master_down, is_held, place_followed}
 
 abbrev pub is_redis : Profile → Bool
 is_redis Strict = false
@@ -30,6 +29,19 @@ is_redis Redis = true
 abbrev pub by_profile : {X : Type 0} → Profile → (strict redis : X) → X
 by_profile Strict strict redis = strict
 by_profile Redis strict redis = redis
+
+-- Who is of the group
+
+-- the place of a candidate among the Sentinels
+abbrev pub candidate_place : Plan → Option RunId → Option ℕ
+candidate_place plan None = None
+candidate_place plan (Some id) = position (λ member. same_id id member.id) (roster_of plan).sentinels
+
+-- Whose vote is asked for, if anybody's. By the strict rule, as in Redis, whoever asks for votes gets them. In the other profile nobody does whom the roster lacks: a
+-- Sentinel that was removed, and came back with its old file, would be elected by the group, and promote a node for itself beside the group's own master. It gets the
+-- answer of one that asks for no vote
+abbrev pub candidate_heeded : Plan → Option RunId → Option RunId
+candidate_heeded plan candidate = by_profile plan.profile candidate (if is_some (candidate_place plan candidate) then candidate else None)
 
 -- The last start
 
@@ -63,11 +75,6 @@ marked_at plan core m now =
 abbrev pub marked : (moment : ℕ) → Failover → Failover
 marked moment f = record f { last_start = Some (clock moment) }
 
--- the moment is yet to come, and no later than any that is kept: a later one is of a clock that was set back
-abbrev pub is_held : Option ℕ → (now : ℕ) → Bool
-is_held None now = false
-is_held (Some from) now = nat_lt now from && nat_le (age now from) HOLD_MS
-
 abbrev pub is_down_for : Option ℕ → (pause now : ℕ) → Bool
 is_down_for None pause now = false
 is_down_for (Some since) pause now = nat_le pause (age since now)
@@ -78,11 +85,6 @@ is_peer_lost plan core now None = false
 is_peer_lost plan core now (Some place) =
     not (place == plan.place)
     && is_down_for (down_since_of (peer_of core place).watch now (settings_at plan 0).after_ms false) (pause_of plan core) now
-
--- the place of a candidate among the Sentinels
-abbrev pub candidate_place : Plan → Option RunId → Option ℕ
-candidate_place plan None = None
-candidate_place plan (Some id) = position (λ member. same_id id member.id) (roster_of plan).sentinels
 
 -- the candidate that this Sentinel voted for is down, so its campaign is over. In Redis whoever voted for it waits for two timeouts all the same
 abbrev pub is_leader_lost : Plan → Core → (m now : ℕ) → Bool
@@ -109,9 +111,9 @@ abbrev pub is_choice_lost : Plan → Core → (m now : ℕ) → Option ℕ → B
 is_choice_lost plan core m now None = false
 is_choice_lost plan core m now (Some k) = is_node_down plan core m now k || is_gone now (node_of core m k)
 
--- where the master was told to hand over it does so soon or never, and not at all where it refused
+-- where the master was told to hand over it does so soon or never; and nothing is awaited where that was refused, or the order to be the master
 abbrev pub handed_ms : Core → (m timeout : ℕ) → ℕ
-handed_ms core m timeout = if is_handed core m then (if (master_of core m).refused then 0 else min HANDED_MS timeout) else timeout
+handed_ms core m timeout = if is_refused core m then 0 else (if is_handed core m then min HANDED_MS timeout else timeout)
 
 -- the failover-timeout that the rows of the table go by. By the strict rule, as in Redis, a failover whose choice is lost waits for it until the timeout. In the
 -- other profile it waits no longer, and what is kept as the last start is looked at as above and not by the table
@@ -149,12 +151,43 @@ rested plan m now (Some rest) core = with_failover core m (marked (rested_at pla
 abbrev pub with_pause : Plan → (m now : ℕ) → Option Row → Core → Core
 with_pause plan m now row core = rested plan m now (rest_of plan.profile row (election_ms plan m)) core
 
--- A switch that was made at the nodes
+-- Replicas that didn't obey
 
--- the place of the node at an address
-abbrev pub place_followed : Plan → (m : ℕ) → Option Addr → Option ℕ
-place_followed plan m None = None
-place_followed plan m (Some addr) = position (same_addr addr) (nodes_of plan m)
+-- The replica that was told that it is the master, where it is up. By the strict rule, as in Redis, it is chosen again each time, as the best one. In the other profile
+-- others go before it once it has refused, or hasn't obeyed by the timeout; not where its master was to hand over to it, since it was told nothing then
+abbrev pub awaited_up : Plan → Core → (m now : ℕ) → Option ℕ
+awaited_up plan core m now =
+    let choice = choice_of (failover_of core m).state in
+    by_profile plan.profile None (if is_planned core m || is_choice_lost plan core m now choice then None else choice)
+
+-- which replica didn't obey, where a turn took this row
+abbrev pub disobeyed : Option Row → (awaited : Option ℕ) → Option ℕ
+disobeyed (Some PromotionTimeout) awaited = awaited
+disobeyed _ awaited = None
+
+abbrev pub with_failed : (m now : ℕ) → Option ℕ → Core → Core
+with_failed m now None core = core
+with_failed m now (Some k) core = with_master core m (record (master_of core m) { failed = slice_set (master_of core m).failed k (Some now) })
+
+-- when it last was given up
+abbrev pub failed_at : Core → (m k : ℕ) → Option ℕ
+failed_at core m k = slice_index_or (master_of core m).failed k None
+
+-- less than two timeouts ago
+abbrev pub is_half_below : Option ℕ → (now timeout : ℕ) → Bool
+is_half_below None now timeout = false
+is_half_below (Some at) now timeout = nat_lt (age at now / 2) timeout
+
+abbrev pub is_below : Option ℕ → (now period : ℕ) → Bool
+is_below None now period = false
+is_below (Some at) now period = nat_lt (age at now) period
+
+-- It was given up, and others go before it. Where there is no other it is told again, not sooner than an election may last: it answers at once, and each try is an epoch
+abbrev pub is_passed_over : Plan → Core → (m now : ℕ) → (again : Bool) → (k : ℕ) → Bool
+is_passed_over plan core m now again k =
+    if again then is_below (failed_at core m k) now (election_ms plan m) else is_half_below (failed_at core m k) now (settings_at plan m).timeout
+
+-- A switch that was made at the nodes
 
 -- the place, where it passes
 abbrev pub passing : Option ℕ → (ℕ → Bool) → Option ℕ
@@ -204,10 +237,23 @@ is_electing (WaitPromotion epoch choice former) = false
 is_electing (ReconfReplicas epoch choice former) = false
 is_electing (UpdateConfig epoch choice) = false
 
--- The other Sentinels are asked while the master is down. In the other profile they are asked for their votes of a master that is up, too, since a campaign may
--- follow a switch
+-- The other Sentinels are asked while the master is down. In the other profile they are asked for their votes of a master that is up, too: a campaign that awaits
+-- votes then is of a switch, or has ended
 abbrev pub is_asking : Plan → Core → (m now : ℕ) → Bool
 is_asking plan core m now = is_master_down plan core m now || by_profile plan.profile false (is_electing (failover_of core m).state)
+
+-- whether a switch is looked for: the master was told to hand over, or this Sentinel voted for another one a moment ago, though the master was well. The last start
+-- is kept as an election and a pause after the vote
+abbrev pub is_soon_after_vote : Option ℕ → (election now : ℕ) → Bool
+is_soon_after_vote None election now = false
+is_soon_after_vote (Some from) election now = is_held (Some from) now && nat_lt election (age now from + LOOKED_MS)
+
+-- By the strict rule, as in Redis, the master is asked for its INFO each ten seconds. In the other profile it is asked as often as the replica to which it hands
+-- over, so that each Sentinel sees who took over, though the leader dies
+abbrev pub is_looking : Plan → Core → (m now : ℕ) → Bool
+is_looking plan core m now =
+    by_profile plan.profile false
+    (is_handed core m || (not (master_of core m).odown && is_soon_after_vote (failover_of core m).last_start (election_ms plan m) now))
 
 -- Which replicas count
 
@@ -239,9 +285,10 @@ down_for (Some since) now = age since now
 
 -- For how long the master has been down, as a replica's link is judged by it. By the strict rule, as in Redis, as long as this Sentinel has found it down. Where
 -- the master hasn't replied once since this Sentinel's start, nobody knows since when it is down: the replicas do, by the link that was lost last, so in the other
--- profile it is at least as long as that
+-- profile it is at least as long as that; and at least as long as it has said that it is a replica, since when nobody has followed it
 abbrev pub master_down_ms : Plan → Core → (m now : ℕ) → ℕ
 master_down_ms plan core m now =
     let place = card_place plan core m in
     let found = down_for (node_down_since plan core m now place) now in
-    by_profile plan.profile found (if is_some (node_of core m place).last_ping then found else max found (least_link_ms plan core m))
+    by_profile plan.profile found
+    (max (down_for (node_of core m place).watch.replica_since now) (if is_some (node_of core m place).last_ping then found else max found (least_link_ms plan core m)))

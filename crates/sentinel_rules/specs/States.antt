@@ -1,5 +1,6 @@
 -- What a Sentinel keeps: what its file is to hold, and what it heard, found and sent since its start.
-use Rattle.std.specs.Prelude.{ℕ, Bool, true, false, not, ◌&&◌, nat_le, is_some, Option, Some, None, List, length, map, replicate, slice_index_or, slice_set, ◌==◌, if◌then◌else◌}
+use Rattle.std.specs.Prelude.{ℕ, max, Bool, true, false, not, ◌&&◌, ◌||◌, nat_lt, nat_le, is_some, unwrap_or, Option, Some, None, List, length, map, position, replicate, slice_index_or, slice_set, ◌==◌, if◌then◌else◌}
+use Rattle.ballot_law.specs.declared.addresses.Addr.{Addr}
 use Rattle.ballot_law.specs.declared.cards.Card.{Card}
 use Rattle.ballot_law.specs.declared.cards.Kept.{Kept}
 use Rattle.ballot_law.specs.declared.hearings.HeardVote.{HeardVote}
@@ -10,19 +11,24 @@ use Rattle.ballot_law.specs.declared.replies.DataRole.TheVariants.{Master, Repli
 use Rattle.ballot_law.specs.declared.replies.Info.{Info}
 use Rattle.ballot_law.specs.Ballots.{card_of, kept_of}
 use Rattle.ballot_law.specs.Clocks.{age, clock}
+use Rattle.ballot_law.specs.Orders.{same_addr}
 use Rattle.ballot_law.specs.Reports.{is_odown_by, kept_at}
 use Rattle.ballot_law.specs.Rosters.{MasterPlan, master_at}
 use Rattle.ballot_law.specs.Tilts.{Turned, opened_clock}
 use Rattle.ballot_law.specs.Watches.{WatchState, opened_at, down_since_of, earlier_of, passed_since}
+use Rattle.failover_states.specs.declared.periods.TheConstants.{ELECTION_MS}
 use Rattle.failover_states.specs.declared.states.FailoverState.{FailoverState}
 use Rattle.failover_states.specs.declared.states.FailoverState.TheVariants.{Idle, WaitStart, SelectReplica, SendPromotion, WaitPromotion, ReconfReplicas, UpdateConfig}
 use Rattle.failover_states.specs.Calls.{epoch_of}
 use Rattle.failover_states.specs.Failovers.{Failover}
 use Rattle.failover_states.specs.Replicas.{untouched}
+use Rattle.sentinel_rules.specs.declared.assumed.TheConstants.{ASSUMED_INFO}
 use Rattle.sentinel_rules.specs.declared.contacts.Contact.{Contact}
 use Rattle.sentinel_rules.specs.Contacts.{new_contact}
-use Rattle.sentinel_rules.specs.declared.periods.TheConstants.{WISH_MS}
-use Rattle.sentinel_rules.specs.Plans.{Plan, roster_of, group_size, settings_at, reboot_ms, node_place}
+use Rattle.sentinel_rules.specs.declared.periods.TheConstants.{HOLD_MS, WISH_MS}
+use Rattle.sentinel_rules.specs.declared.profiles.Profile.{Profile}
+use Rattle.sentinel_rules.specs.declared.profiles.Profile.TheVariants.{Strict, Redis}
+use Rattle.sentinel_rules.specs.Plans.{Plan, roster_of, group_size, settings_at, reboot_ms, nodes_of, node_place}
 
 -- of a data node: its watch, when its last valid reply to a PING came, its last INFO and when it came, when it was last sent a
 -- PING, an INFO and a hello, since when it has been wrong: as a master, or with another master; and whether of a connection to it was last heard that it was lost, and since when
@@ -53,8 +59,9 @@ pub record PeerState : Type 0 where
   pub greeted : ℕ
 
 -- of a master: the votes heard, by the voter's place; the failover; what the other Sentinels last said, by place; its nodes; when
--- the other Sentinels were last asked; whether it was objectively down at its last tick; when a client last asked that it hand over to a replica, until the
--- campaign for that begins; the epoch of that campaign, and whether the master refused to hand over in it. For those who ask
+-- the other Sentinels were last asked; whether it was objectively down at its last tick; when a client last asked that it hand over to a replica; the epoch of the
+-- campaign for that, once it has begun; whether in the last campaign who was told to bring the new master about refused; and of each node when it last was told in a
+-- failover that it is the master, and didn't become it. For those who ask
 -- since when it has been objectively down
 pub record MasterState : Type 0 where
   pub heard : List (Option HeardVote)
@@ -67,6 +74,7 @@ pub record MasterState : Type 0 where
   pub wish : Option ℕ
   pub planned : Option ℕ
   pub refused : Bool
+  pub failed : List (Option ℕ)
 
 -- kept: what the file is to hold. random: that of the last tick. won: the election that the last input brought
 pub record Core : Type 0 where
@@ -117,6 +125,7 @@ new_master sentinels nodes now =
       wish = None;
       planned = None;
       refused = false;
+      failed = replicate nodes None;
     }
 
 -- what the file holds, and nothing else: no vote heard, no report, no failover
@@ -155,6 +164,10 @@ peer_of core place = slice_index_or core.peers place no_peer
 abbrev pub failover_of : Core → (m : ℕ) → Failover
 failover_of core m = (master_of core m).failover
 
+abbrev pub is_at : Option ℕ → (k : ℕ) → Bool
+is_at None k = false
+is_at (Some place) k = k == place
+
 -- the place of the node that the configuration names
 abbrev pub card_place : Plan → Core → (m : ℕ) → ℕ
 card_place plan core m = node_place plan m (card_of core.kept m).addr
@@ -176,13 +189,27 @@ is_tilted core = is_some core.clock.entered
 
 -- Switches that a client asked for
 
-abbrev pub is_recent : Option ℕ → (now : ℕ) → Bool
-is_recent None now = false
-is_recent (Some at) now = nat_le (age at now) WISH_MS
+-- it was so many milliseconds ago, at most
+abbrev pub is_recent : Option ℕ → (ms now : ℕ) → Bool
+is_recent None ms now = false
+is_recent (Some at) ms now = nat_le (age at now) ms
 
 -- a client asked for a switch a moment ago, and its campaign is to begin
 abbrev pub is_wished : Core → (m now : ℕ) → Bool
-is_wished core m now = is_recent (master_of core m).wish now
+is_wished core m now = is_recent (master_of core m).wish WISH_MS now && not (is_some (master_of core m).planned)
+
+-- the moment is yet to come, and no later than any that is kept: a later one is of a clock that was set back
+abbrev pub is_held : Option ℕ → (now : ℕ) → Bool
+is_held None now = false
+is_held (Some from) now = nat_lt now from && nat_le (age now from) HOLD_MS
+
+-- a failover runs, or a switch was asked for within the time of an election
+abbrev pub is_in_progress : Core → (m now : ℕ) → Bool
+is_in_progress core m now = is_failing_over core m || is_recent (master_of core m).wish ELECTION_MS now
+
+-- the own campaign is put off, after a failover or a vote
+abbrev pub is_put_off : Core → (m now : ℕ) → Bool
+is_put_off core m now = is_held (failover_of core m).last_start now
 
 abbrev pub is_same_epoch : Option ℕ → Option ℕ → Bool
 is_same_epoch None other = false
@@ -210,6 +237,10 @@ is_awaiting (UpdateConfig epoch choice) = false
 abbrev pub is_handed : Core → (m : ℕ) → Bool
 is_handed core m = is_planned core m && is_awaiting (failover_of core m).state
 
+-- and who was told to bring that about refused
+abbrev pub is_refused : Core → (m : ℕ) → Bool
+is_refused core m = is_awaiting (failover_of core m).state && (master_of core m).refused
+
 -- What nodes say of themselves
 
 abbrev pub is_master_role : DataRole → Bool
@@ -235,11 +266,36 @@ abbrev pub reboot_down_since : Plan → Core → (m now k : ℕ) → Option ℕ
 reboot_down_since plan core m now k =
     if k == card_place plan core m then loading_since (node_of core m k).rebooted (reboot_ms plan m) now else None
 
+-- the place of the node at an address
+abbrev pub place_followed : Plan → (m : ℕ) → Option Addr → Option ℕ
+place_followed plan m None = None
+place_followed plan m (Some addr) = position (same_addr addr) (nodes_of plan m)
+
+-- since when the node at a place has been silent for too long
+abbrev pub silent_since : Plan → Core → (m now : ℕ) → Option ℕ → Option ℕ
+silent_since plan core m now None = None
+silent_since plan core m now (Some k) = down_since_of (node_of core m k).watch now (settings_at plan m).after_ms false
+
+abbrev pub later_of : Option ℕ → Option ℕ → Option ℕ
+later_of None b = None
+later_of (Some a) None = None
+later_of (Some a) (Some b) = Some (max a b)
+
+-- In Redis a master that says that it is a replica is well for 20 seconds longer than one that is silent. In the other profile it is down as soon as one that is
+-- silent, where the node that it follows is down: it handed over to a node that died, and nobody is the master
+abbrev pub stray_down_since : Profile → Plan → Core → (m now k : ℕ) → Option ℕ
+stray_down_since Strict plan core m now k = None
+stray_down_since Redis plan core m now k =
+    if k == card_place plan core m then later_of (passed_since (node_of core m k).watch.replica_since (settings_at plan m).after_ms now)
+    (silent_since plan core m now (place_followed plan m (unwrap_or (node_of core m k).info ASSUMED_INFO).master))
+    else None
+
 -- since when a data node has been subjectively down; that of the configuration also by reporting itself a replica, or by loading for too long
 abbrev pub node_down_since : Plan → Core → (m now k : ℕ) → Option ℕ
 node_down_since plan core m now k =
-    earlier_of (down_since_of (node_of core m k).watch now (settings_at plan m).after_ms (k == card_place plan core m))
-    (reboot_down_since plan core m now k)
+    earlier_of (earlier_of (down_since_of (node_of core m k).watch now (settings_at plan m).after_ms (k == card_place plan core m))
+    (reboot_down_since plan core m now k))
+    (stray_down_since plan.profile plan core m now k)
 
 abbrev pub is_node_down : Plan → Core → (m now k : ℕ) → Bool
 is_node_down plan core m now k = is_some (node_down_since plan core m now k)

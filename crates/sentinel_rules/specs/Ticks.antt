@@ -1,5 +1,6 @@
 -- A tick of one master: the clock, what is due to be sent, what is down, the failover, the questions to the other Sentinels.
 use Rattle.std.specs.Prelude.{ℕ, zero, suc, ◌+◌, ◌-◌, min, Bool, true, false, not, ◌&&◌, ◌||◌, nat_lt, nat_le, ◌==◌, is_some, Option, Some, None, unwrap_or, option_map, List, [], ◌∷◌, ◌++◌, length, if◌then◌else◌}
+use Rattle.std.specs.List.{list_all}
 use Rattle.ballot_law.specs.declared.addresses.Addr.{Addr}
 use Rattle.ballot_law.specs.declared.addresses.RunId.{RunId}
 use Rattle.ballot_law.specs.declared.messages.NodeName.TheVariants.{SentinelAt}
@@ -9,6 +10,7 @@ use Rattle.ballot_law.specs.OwnVotes.{asked}
 use Rattle.ballot_law.specs.Rosters.{need}
 use Rattle.ballot_law.specs.VotesHeard.{kept_at, pick_in, count_in}
 use Rattle.ballot_law.specs.Tilts.{turned_at}
+use Rattle.ballot_law.specs.Watches.{down_since_of}
 use Rattle.vote_book.specs.Elections.{next_epoch}
 use Rattle.replica_choice.specs.declared.candidates.Candidate.{Candidate}
 use Rattle.replica_choice.specs.declared.candidates.Limits.{Limits}
@@ -25,10 +27,11 @@ use Rattle.sentinel_rules.specs.declared.frames.Frame.{Frame}
 use Rattle.sentinel_rules.specs.declared.frames.Frame.TheVariants.{PingTo, InfoTo, HelloTo, AskTo, PromoteTo, HandOverTo, FollowTo}
 use Rattle.sentinel_rules.specs.Contacts.{contact_asked, since_after}
 use Rattle.sentinel_rules.specs.Plans.{Plan, roster_of, me, master_count, settings_at, nodes_of, addr_at, node_name}
-use Rattle.sentinel_rules.specs.States.{Core, NodeState, PeerState, master_of, node_of, failover_of, with_master, with_failover, with_current, card_place, is_failing_over, is_tilted, is_wished, is_planned, is_unrefused, is_handed, is_node_down, is_master_down, is_odown_at}
+use Rattle.sentinel_rules.specs.States.{Core, NodeState, PeerState, master_of, node_of, failover_of, with_master, with_failover, with_current, is_at, card_place, is_failing_over, is_tilted, is_wished, is_planned, is_unrefused, is_handed, is_node_down, is_master_down, is_odown_at}
 use Rattle.sentinel_rules.specs.Parts.{Part, quiet, puts, then_part, part_if, frame_if, changed_from, frames_from}
-use Rattle.sentinel_rules.specs.Profiles.{may_begin, patience, with_pause, switched_to, is_switch_due, is_given_away, first_of, is_asking, master_down_ms}
+use Rattle.sentinel_rules.specs.Profiles.{by_profile, may_begin, patience, with_pause, awaited_up, disobeyed, with_failed, is_passed_over, switched_to, is_switch_due, is_given_away, first_of, is_asking, is_looking, master_down_ms}
 use Rattle.sentinel_rules.specs.Votes.{book_of, with_book, mark_for}
+use Rattle.sentinel_rules.specs.Endings.{let_go}
 
 -- What is due
 
@@ -76,17 +79,14 @@ info_period is_heir is_card is_busy node =
     if is_heir then HEIR_INFO_MS else (if not is_card && (is_busy || had_link_down node.info) then BUSY_INFO_MS else INFO_MS)
 
 -- what the sending to a master's nodes goes by: the reading, the period of PING, the place of the configuration's node, whether the master was down at its last
--- tick or fails over, and the place of the replica to which it was told to hand over
+-- tick or fails over, the place of the replica to which it was told to hand over, and whether the configuration's node is looked at as often
 pub record Sending : Type 0 where
   pub now : ℕ
   pub ping_ms : ℕ
   pub card_place : ℕ
   pub is_busy : Bool
   pub heir : Option ℕ
-
-abbrev pub is_at : Option ℕ → (k : ℕ) → Bool
-is_at None k = false
-is_at (Some place) k = k == place
+  pub looks : Bool
 
 abbrev pub heir_of : Core → (m : ℕ) → Option ℕ
 heir_of core m = if is_handed core m then chosen_place (failover_of core m).state else None
@@ -99,13 +99,15 @@ sending_of plan core m now =
       card_place = card_place plan core m;
       is_busy = (master_of core m).odown || is_failing_over core m;
       heir = heir_of core m;
+      looks = is_looking plan core m now;
     }
 
 abbrev pub is_ping_due : Sending → NodeState → Bool
 is_ping_due s node = is_due node.ping_sent s.now s.ping_ms
 
 abbrev pub is_info_due : Sending → (k : ℕ) → NodeState → Bool
-is_info_due s k node = is_due node.info_sent s.now (info_period (is_at s.heir k) (k == s.card_place) s.is_busy node)
+is_info_due s k node =
+    is_due node.info_sent s.now (info_period (is_at s.heir k || (s.looks && (k == s.card_place))) (k == s.card_place) s.is_busy node)
 
 abbrev pub is_hello_due : Sending → NodeState → Bool
 is_hello_due s node = is_due node.hello_sent s.now HELLO_MS
@@ -166,11 +168,28 @@ limits_of plan core m now =
       master_down_ms = master_down_ms plan core m now;
     }
 
+-- one that didn't obey is no candidate, as one that is down isn't
+abbrev pub willing_of : Plan → Core → (m now : ℕ) → (again : Bool) → (k : ℕ) → Candidate
+willing_of plan core m now again k =
+    let candidate = candidate_of plan core m now k in record candidate { sdown = candidate.sdown || is_passed_over plan core m now again k }
+
+abbrev pub willing_ones : Plan → Core → (m now : ℕ) → (again : Bool) → List Candidate
+willing_ones plan core m now again = at_places (willing_of plan core m now again) 0 (length (nodes_of plan m))
+
+abbrev pub best_willing : Plan → Core → (m now : ℕ) → (again : Bool) → Option ℕ
+best_willing plan core m now again = choice_of (willing_ones plan core m now again) now (limits_of plan core m now)
+
+-- by what they told; by the profile one that didn't obey is chosen where there is no other
+abbrev pub best_told : Plan → Core → (m now : ℕ) → Option ℕ
+best_told plan core m now =
+    by_profile plan.profile (choice_of (candidates_of plan core m now) now (limits_of plan core m now))
+    (first_of (best_willing plan core m now false) (best_willing plan core m now true))
+
 -- the best replica, by its place and its address; after a switch that was made at the nodes it is the node that took over
 abbrev pub best_place : Plan → Core → (m now : ℕ) → Option ℕ
 best_place plan core m now =
     first_of (switched_to plan core m now)
-    (if is_given_away plan core m now then None else choice_of (candidates_of plan core m now) now (limits_of plan core m now))
+    (if is_given_away plan core m now then None else best_told plan core m now)
 
 abbrev pub best_of : Plan → Core → (m now : ℕ) → Option (ℕ × Addr)
 best_of plan core m now = option_map (λ k. (k, addr_at plan m k)) (best_place plan core m now)
@@ -240,13 +259,14 @@ promote_frames plan core m unrefused hands_over row choice = []
 abbrev pub order_frames : Plan → (m k : ℕ) → ReplicaOrder → List Frame
 order_frames plan m k replica = frame_if replica.ordered (FollowTo (node_name plan m k) m)
 
--- the first row that fits; one that ends the failover may have the next one wait
+-- the first row that fits; one that ends the failover may have the next one wait, and others go before the replica that didn't obey
 abbrev pub row_part : Plan → (m now : ℕ) → Core → Part
 row_part plan m now core =
     let turn = turn_of plan core m now false in
     let epoch = campaign_epoch core m in
     puts
-    (with_pause plan m now turn.row (with_win m epoch turn.row (with_vote plan m now epoch turn.vote (with_failover core m turn.failover))))
+    (with_failed m now (disobeyed turn.row (awaited_up plan core m now))
+    (with_pause plan m now turn.row (with_win m epoch turn.row (with_vote plan m now epoch turn.vote (with_failover core m turn.failover)))))
     (promote_frames plan core m (is_unrefused core m) (hands_over plan core m now) turn.row (chosen_place turn.failover.state)
     ++ frames_from (order_frames plan m) 0 turn.failover.replicas)
 
@@ -255,22 +275,33 @@ abbrev pub after_start : (m : ℕ) → Turn → Core → Core
 after_start m turn core =
     let after = with_failover core m turn.failover in if is_some turn.row then with_current after (next_epoch (book_of core m)) else after
 
--- the master was objectively down when that was last computed, or a switch was made at the nodes, and the own campaign may begin; or a client asked for a switch,
--- which nothing holds back
+-- all nodes of the master are down, and all other Sentinels
+abbrev pub is_all_down : Plan → Core → (m now : ℕ) → Bool
+is_all_down plan core m now =
+    list_all (λ down. down) (at_places (is_node_down plan core m now) 0 (length (nodes_of plan m)))
+    && list_all (λ peer. is_some (down_since_of peer.watch now (settings_at plan 0).after_ms false)) core.peers
+
+-- Where all are down at the reading at which the master is found objectively down it may be this Sentinel that stood still. By the strict rule, as in Redis, a
+-- campaign begins all the same; in the other profile not before the next tick
+abbrev pub is_own_pause : Plan → Core → (m now : ℕ) → Bool
+is_own_pause plan core m now =
+    by_profile plan.profile false (is_at (master_of core m).odown_since now && is_all_down plan core m now)
+
+-- a client asked for a switch, the master was objectively down when that was last computed, or a switch was made at the nodes; and the own campaign may begin
 abbrev pub is_start_due : Plan → Core → (m now : ℕ) → Bool
 is_start_due plan core m now =
-    is_wished core m now || (((master_of core m).odown || is_switch_due plan core m now) && may_begin plan core m now)
+    (is_wished core m now || (((master_of core m).odown && not (is_own_pause plan core m now)) || is_switch_due plan core m now))
+    && may_begin plan core m now
 
 -- a campaign that began is that of the switch that was asked for, if one was
-abbrev pub planned_if : (wished : Bool) → (epoch : Option ℕ) → Option ℕ
-planned_if true epoch = epoch
-planned_if false epoch = None
+abbrev pub planned_if : (wished : Bool) → (epoch last : Option ℕ) → Option ℕ
+planned_if true epoch last = epoch
+planned_if false epoch last = last
 
 abbrev pub with_plan : (m now : ℕ) → Core → Core
 with_plan m now core =
     with_master core m (record (master_of core m) {
-      wish = None;
-      planned = planned_if (is_wished core m now) (epoch_of (failover_of core m).state);
+      planned = planned_if (is_wished core m now) (epoch_of (failover_of core m).state) (master_of core m).planned;
       refused = false;
     })
 
@@ -312,13 +343,16 @@ ask_part plan m now started core =
 
 -- The tick
 
-abbrev pub odown_part : Plan → (m now : ℕ) → Core → Part
-odown_part plan m now core =
-    quiet
-    (with_master core m (record (master_of core m) {
+abbrev pub odown_kept : Plan → (m now : ℕ) → Core → Core
+odown_kept plan m now core =
+    with_master core m (record (master_of core m) {
       odown = is_odown_at plan core m now;
       odown_since = since_after (is_odown_at plan core m now) now (master_of core m).odown_since;
-    }))
+    })
+
+-- whether the master is objectively down, and what that does to a failover
+abbrev pub odown_part : Plan → (m now : ℕ) → Core → Part
+odown_part plan m now core = quiet (let_go plan m now (odown_kept plan m now core))
 
 -- a start where one is due, a row where a failover runs, the questions
 abbrev pub failover_part : Plan → (m now : ℕ) → Core → Part

@@ -549,8 +549,8 @@ pub record ASwitchForgetsTheStart : Type 0 where
   pub strict : (failover_of (core_of failover_plan failover_inputs) 0).last_start ≡ Some 7000
   pub redis : (failover_of (core_of (of_redis failover_plan) failover_inputs) 0).last_start ≡ None
 
--- the candidate that was voted for at 6,050 never replied, and is down: a Sentinel of Redis's profile begins at the next tick, for an election that may last for
--- one second
+-- the candidate that was voted for at 6,050 never replied, and is down: a Sentinel of Redis's profile begins at the next tick but one, as at the next one all are
+-- down at once, which may be its own pause
 abbrev pub ALostCandidateHoldsNobodyBack : Type 0
 ALostCandidateHoldsNobodyBack =
     rare_from
@@ -558,10 +558,44 @@ ALostCandidateHoldsNobodyBack =
     (core_of (of_redis short_timeout_plan) (ticks_from 1000 5 ++ (6000, Tick 0 1950) ∷ []))
     (ask_at 6050 6379 1 (Some id_b) ∷ answer_at 6100 1 None 0 ∷ ticks_from 7000 3)
     ≡ (6050, answer (Answer 0 (local 6379) true (Some id_b) 1))
-    ∷ (7000, asks 2 (Some id_a))
+    ∷ (7000, asks 1 None)
     ∷ (8000, asks 2 (Some id_a))
-    ∷ (9000, asks 2 None)
+    ∷ (9000, asks 2 (Some id_a))
     ∷ []
+
+-- Who is in no file asks for a vote in a later epoch. A strict Sentinel votes for it; one of Redis's profile says what it says to a question alone, and then votes for one
+-- of the group in an epoch that isn't above the current one
+pub record AGhostGetsNoVote : Type 0 where
+  pub strict :
+      rare_from short_timeout_plan (core_of short_timeout_plan (ticks_from 1000 6)) (ask_at 6050 6379 5 (Some (id_of_digit 14)) ∷ [])
+      ≡ (6050, answer (Answer 0 (local 6379) true (Some (id_of_digit 14)) 5))
+      ∷ []
+  pub redis :
+      rare_from (of_redis short_timeout_plan) (core_of (of_redis short_timeout_plan) (ticks_from 1000 6))
+      (ask_at 6050 6379 5 (Some (id_of_digit 14)) ∷ ask_at 6060 6379 1 (Some id_b) ∷ [])
+      ≡ (6050, answer (Answer 0 (local 6379) true None 0))
+      ∷ (6060, answer (Answer 0 (local 6379) true (Some id_b) 1))
+      ∷ []
+
+-- the best replica was told that it is the master at 10,000, and refuses
+abbrev pub refusing : List (ℕ × Event)
+refusing =
+    pong_at 10050 1 ∷ pong_at 10050 2 ∷ replica_at 10060 1 6379 100 ∷ replica_at 10060 2 6379 200
+    ∷ (10070, Refused (StoreAt 2))
+    ∷ tick_at 10100
+    ∷ tick_at 10500
+    ∷ answer_at 10550 1 (Some id_a) 2
+    ∷ tick_at 10600 ∷ tick_at 10700 ∷ tick_at 10800
+    ∷ []
+
+-- a strict Sentinel doesn't hear of it. One of Redis's profile ends the failover, begins anew after its pause, and promotes the other replica
+pub record WhoRefusesIsPassedOver : Type 0 where
+  pub strict : rare_from failover_plan (core_of failover_plan (until_promotion 100 200 1)) refusing ≡ []
+  pub redis :
+      rare_from (of_redis failover_plan) (core_of (of_redis failover_plan) (until_promotion 100 200 1)) refusing
+      ≡ (10500, asks 2 (Some id_a))
+      ∷ (10800, sent (StoreAt 1) (ReplicaOf None) ∷ [])
+      ∷ []
 
 -- Switches that a client asks for
 

@@ -1,7 +1,7 @@
 //! How often a Sentinel sends what, and how long it bears what is wrong, in milliseconds.
 
 ghost use Rattle.std.specs.Prelude.{◌≡◌};
-ghost use Rattle.sentinel_rules.specs.declared.periods.TheConstants.{ASK_MS, BUSY_INFO_MS, HELLO_MS, INFO_MS, PING_MS, WRONG_ROLE_MS, LINK_MAX_S, HOLD_MS, QUIET_MS, SWITCHED_MS, WISH_MS, HANDED_MS, HEIR_INFO_MS};
+ghost use Rattle.sentinel_rules.specs.declared.periods.TheConstants.{ASK_MS, BUSY_INFO_MS, HELLO_MS, INFO_MS, PING_MS, WRONG_ROLE_MS, LINK_MAX_S, LOOKED_MS, HOLD_MS, QUIET_MS, SWITCHED_MS, SWITCH_MS, WISH_MS, HANDED_MS, HEIR_INFO_MS};
 ghost use Rattle.ballot_law.specs.declared.periods.TheConstants.{HAND_OVER_MS};
 ghost use Rattle.std.specs.Prelude.{◌+◌};
 ghost use Rattle.failover_states.specs.declared.periods.TheConstants.{ELECTION_MS, SPREAD_MS};
@@ -41,8 +41,14 @@ pub const SWITCHED_MS: u64 = 2_000;
 /// For how long a switch that was asked for waits for the tick at which its campaign begins; after that it lapses.
 pub const WISH_MS: u64 = 3_000;
 
+/// For how long a switch that was asked for may be under way before the master is told to hand over; then it ends.
+pub const SWITCH_MS: u64 = 5_000;
+
 /// For how long a failover waits for the choice of a master that was told to hand over, at most.
 pub const HANDED_MS: u64 = 2_500;
+
+/// For how long after a vote for another Sentinel a master that is well is looked at as often as the choice of a switch.
+pub const LOOKED_MS: u64 = 3_000;
 
 /// How often INFO is sent to that choice.
 pub const HEIR_INFO_MS: u64 = 100;
@@ -65,5 +71,7 @@ pub fn law_waits()
     ensures quiet { QUIET_MS ≡ 1000 }
     ensures switched { SWITCHED_MS ≡ 2000 }
     ensures wish { WISH_MS ≡ 3000 }
+    ensures looked { LOOKED_MS ≡ 3000 }
+    ensures switch { SWITCH_MS ≡ 5000 }
     ensures handed { HANDED_MS ≡ HAND_OVER_MS + 500 }
 {}

@@ -25,6 +25,8 @@ ghost use Rattle.sentinel_rules.specs.Worked.{
   ShownInAFailover,
   ASwitchForgetsTheStart,
   ALostCandidateHoldsNobodyBack,
+  AGhostGetsNoVote,
+  WhoRefusesIsPassedOver,
   APlannedSwitch,
   ASwitchAtTheNodes,
 };
@@ -73,10 +75,13 @@ pub fn law_example_replicas()
     ensures a_replica_of_another_follows { AReplicaOfAnotherFollows }
 {}
 
-/// What the profiles differ in: the last start at a new address, and a vote for a candidate that is down.
+/// What the profiles differ in: the last start at a new address, a vote for a candidate that is down, or that no file
+/// names, and a replica that refuses to be the master.
 pub fn law_example_profiles()
     ensures a_switch_forgets_the_start { ASwitchForgetsTheStart }
     ensures a_lost_candidate_holds_nobody_back { ALostCandidateHoldsNobodyBack }
+    ensures a_ghost_gets_no_vote { AGhostGetsNoVote }
+    ensures who_refuses_is_passed_over { WhoRefusesIsPassedOver }
 {}
 
 /// Switches of a master that is up: one that a client asks for, from the command to the new address, and one that was

@@ -2,6 +2,7 @@
 use Rattle.std.proofs.Common.{◌≡◌, ◌∙◌, ◌<◌, ℕ, List, All, ap, refl, sym, subst}
 use Rattle.std.specs.Global.{Vec}
 use Rattle.std.specs.Prelude.{Option, None, Some, Ok, IfSome}
+use Rattle.ballot_law.specs.Rosters.{Roster}
 use Rattle.client_port.specs.declared.port.Port.{Port}
 use Rattle.sentinel_cell.specs.declared.keeper.Keeper.{Keeper}
 use Rattle.sentinel_cell.specs.Histories.{World, opened}
@@ -12,6 +13,7 @@ use Rattle.sentinel_rules.specs.declared.profiles.Profile.{Profile}
 use Rattle.sentinel_rules.specs.Plans.{group_size, me}
 use Rattle.sentinel_rules.specs.States.{opened as opened_core}
 use Rattle.sentinel_runner.specs.Opening.{IsOpenedBy, IsOpenedAnew}
+use Rattle.tcp_transport.specs.Places.{IsPlaceOf}
 
 pub opens : {S : Type 0} (held : S → Option (List ℕ)) (failures : S → ℕ) (keeper : Keeper S) (conf : ConfPlan) (profile : Profile) (reboots : List ℕ) (now : ℕ)
     → (start : World)
@@ -56,3 +58,8 @@ pub want_as : (given wanted : List ℕ) (ports kept : Vec Port) → kept ≡ por
 want_as given wanted ports kept is same all =
     subst (λ (pass : List ℕ). All (λ (port : Port). port.clients.terms.password ≡ pass) kept.items) same
     (subst (λ (parts : Vec Port). All (λ (port : Port). port.clients.terms.password ≡ given) parts.items) (sym is) all)
+
+-- the connections are those of the Sentinel of this conf, at its place of the roster
+pub wired_as : (given conf : ConfPlan) (roster : Roster) (own : ℕ) → given ≡ conf → roster ≡ given.roster → IsPlaceOf given.roster given.id own
+    → (roster ≡ conf.roster) × IsPlaceOf conf.roster conf.id own
+wired_as given conf roster own same is at = subst (λ (c : ConfPlan). (roster ≡ c.roster) × IsPlaceOf c.roster c.id own) same (is, at)

@@ -1,13 +1,14 @@
 -- Processes of a group that `watch` runs: what the contracts of its code say of each, and what is asked of the network and of the order of all.
-use Rattle.std.specs.Prelude.{◌≡◌, ℕ, ◌<◌, ◌⊎◌, Bool, true, false, List, [], ◌∷◌, ◌++◌, length}
+use Rattle.std.specs.Prelude.{◌≡◌, ℕ, ◌<◌, ◌⊎◌, Bool, true, List, [], ◌∷◌, ◌++◌, length, Some}
 use Rattle.std.specs.List.{AllByRecursion}
 use Rattle.ballot_law.specs.declared.cards.Kept.{Kept}
+use Rattle.ballot_law.specs.declared.addresses.RunId.{RunId}
 use Rattle.ballot_law.specs.declared.events.Event.{Event}
 use Rattle.ballot_law.specs.declared.messages.NodeName.{NodeName}
 use Rattle.ballot_law.specs.declared.messages.NodeName.TheVariants.{SentinelAt}
 use Rattle.ballot_law.specs.declared.steps.KeptText.{KeptText}
 use Rattle.ballot_law.specs.Law.{IsStart}
-use Rattle.ballot_law.specs.Rosters.{Roster, size, id_of, HasDistinctIds}
+use Rattle.ballot_law.specs.Rosters.{Roster, size, HasDistinctIds}
 use Rattle.ballot_law.specs.Worlds.{World as Group, IsFree}
 use Rattle.links.specs.declared.target.Target.{Target}
 use Rattle.process_laws.specs.Actions.{Action, Took, IsPublished, actions_after, all_sent, at_first}
@@ -21,18 +22,21 @@ use Rattle.sentinel_conf.specs.Facts.{IsSoundConf}
 use Rattle.sentinel_conf.specs.Meaning.{ConfPlan}
 use Rattle.sentinel_rules.specs.declared.profiles.Profile.{Profile}
 use Rattle.sentinel_rules.specs.Ignored.{is_noticed}
+use Rattle.sentinel_rules.specs.Plans.{roster_of}
 use Rattle.sentinel_runner.specs.Opening.{IsOpenedAnew}
 use Rattle.sentinel_runtime.specs.Hearing.{MayTakeAll}
 use Rattle.sentinel_runtime.specs.Saying.{IsReleased}
+use Rattle.tcp_transport.specs.Places.{IsOfRoster}
 use Rattle.tcp_transport.specs.Sockets.{Gets, MayTell}
 use Rattle.tcp_transport.specs.Told.{IsTold}
 
 -- ---- the instance of `Which` and `Connects` of which all is known
 
--- Bytes tell the event that came on a connection which stood so, for what was asked there; and nothing went out on it but what this Sentinel may say. This is `told`, and
--- `IsReleased start` is `said`
+-- Bytes tell the event that came on a connection which stood so, for what was asked there; it is to a node of this Sentinel's roster, and nothing went out on it but what
+-- this Sentinel may say. This is `told`, `IsReleased start` is `said`, and `IsOfRoster (roster_of start.plan)` is `reaches`
 pub record IsToldThere (start : World) (stood : Target → (put got : List ℕ) → Type 0) (event : Event) : Type 0 where
   pub target : Target
+  pub reached : IsOfRoster (roster_of start.plan) target
   pub put : List ℕ
   pub got : List ℕ
   pub stands : stood target put got
@@ -42,12 +46,14 @@ pub record IsToldThere (start : World) (stood : Target → (put got : List ℕ) 
 abbrev pub Passes : (test : Target → (put got : List ℕ) → Bool) → Target → (put got : List ℕ) → Type 0
 Passes test target put got = test target put got ≡ true
 
--- where each socket is among the connections that stood so, as it stands after a read, that read tells what `Socket` asks of it
+-- where each socket is among the connections that stood so, as it stands after a read, and these are to nodes of the roster, as `Connects` asks, that read tells what
+-- `Socket` asks of it
 abbrev pub SocketsTell : Type 0
 SocketsTell =
     (start : World) (stood old new : Target → (put got : List ℕ) → Bool) (bytes : List ℕ)
     → Gets (Passes old) (Passes new) bytes
     → ((target : Target) (put got : List ℕ) → Passes new target put got → Passes stood target put got)
+    → ((target : Target) (put got : List ℕ) → Passes stood target put got → ∥ IsOfRoster (roster_of start.plan) target ∥₁)
     → MayTell (IsReleased start) (IsToldThere start (Passes stood)) (Passes old) bytes
 
 -- ---- one process
@@ -74,15 +80,13 @@ AreWatches roster i file stood (life ∷ lives) = IsWatch roster i file (stood l
 
 -- ---- the network
 
--- what came on a connection to this node, for what was asked there, was carried to Sentinel i: the node is another Sentinel, whose port put it out
+-- what came on a connection to this node, for what was asked there, was carried to Sentinel i: the node is a Sentinel, and a port that named itself by its run id put it out
 pub record IsCarriedFrom (roster : Roster) (before : List Action) (i : ℕ) (start : World) (event : Event) (target : Target) (put got : List ℕ)
     (tells : IsTold (IsReleased start) target put got event) : Type 0 where
   pub number : ℕ
-  pub within : number < size roster
   pub node : target.node ≡ SentinelAt number
-  pub speaks : target.listens ≡ false
   pub other : World
-  pub carried : IsCarried roster before i (id_of roster number) other tells.asked got
+  pub carried : (id : RunId) → target.id ≡ Some id → IsCarried roster before i id other tells.asked got
 
 -- a connection of one of these processes tells the event, as it stood at some moment, and what had come on it by then was carried
 pub record IsCarriedIn (roster : Roster) (before : List Action) (i : ℕ) (lives : List Life) (stood : Life → Target → (put got : List ℕ) → Type 0) (event : Event) : Type 0 where

@@ -12,6 +12,8 @@ ghost use Rattle.sentinel_runtime.specs.Saying.{IsNoted, IsReleased};
 ghost use Rattle.sentinel_runner.specs.declared.group_fault.GroupFault.TheVariants.{NotOneRoster};
 ghost use Rattle.sentinel_runner.specs.declared.opened.TheConstants.{PORT_THREADS_MAX};
 ghost use Rattle.sentinel_runner.specs.declared.watch.TheConstants.{BESIDE};
+ghost use Rattle.links.specs.declared.target.Target.{Target};
+ghost use Rattle.tcp_transport.specs.Places.{IsOfRoster, IsPlaceOf};
 
 use crate::group::outcome;
 use crate::group_fault::GroupFault;
@@ -35,13 +37,20 @@ use std::net::Net;
 use std::rt::Clock;
 use std::sync::Wait;
 use std::sync::atomic::{AtomicU64, Ordering};
-use std::thread::Threads;
+use std::thread::{self, Threads};
+use std::time::Duration;
 use tcp_transport::{
     Connections, Connects, Logins, NetSockets, PlannedConnections, TickLoop, WatchState,
 };
 
 /// How many threads use a Sentinel beside those of its port: that of its ticks.
 const BESIDE: u16 = 1;
+
+/// For how long after the start nobody is answered, at most, in milliseconds: the time between two hellos.
+const FIRST_MS: u64 = 2_000;
+
+/// How often it is looked for them until then, in milliseconds.
+const FIRST_LOOK_MS: u64 = 10;
 
 /// What a Sentinel of its own is told beside its conf.
 #[derive(Drop)]
@@ -100,6 +109,7 @@ fn wires_of<R: Net>(
     logins: Logins,
 ) -> Result<PlannedConnections, GroupFault>
     ensures nodes { IfOk result (λ wires. wires.roster ≡ conf.now.roster) }
+    ensures own { IfOk result (λ wires. IsPlaceOf conf.now.roster conf.now.id wires.own) }
     ensures logins { IfOk result (λ wires. wires.logins ≡ logins) }
     ensures roster { IfErr result (λ fault. fault ≢ NotOneRoster) }
 {
@@ -221,7 +231,8 @@ impl<S: ConfStore + Drop> Watch<S> {
     /// the conf keeps is stored once its port is had, which is served after that: where the port can't be had the store
     /// is as it was.
     ///
-    /// Each thread of the port wants the password of the settings, and the connections begin with the settings' logins.
+    /// Each thread of the port wants the password of the settings. The connections are those of the conf's Sentinel to
+    /// the other nodes of its roster, and begin with the settings' logins.
     ///
     /// `Halted` where the store refuses the text, `PortRefused` where a port can't be had, or would have to want a
     /// password of clients by a strict profile, which asks nobody for one, and `NoMemory`: `NotOneRoster` never comes.
@@ -240,7 +251,8 @@ impl<S: ConfStore + Drop> Watch<S> {
         ensures client { IfOk result (λ watch. watch.watching.opened.port.clients.terms.password ≡ settings.admission.password) }
         ensures clients { IfOk result (λ watch. All (λ port. port.clients.terms.password ≡ settings.admission.password)
             watch.watching.opened.others.items) }
-        ensures logins { IfOk result (λ watch. (watch.wires.logins ≡ settings.logins) × (watch.wires.roster ≡ loaded.conf.roster)) }
+        ensures wires { IfOk result (λ watch. (watch.wires.roster ≡ loaded.conf.roster) × IsPlaceOf loaded.conf.roster loaded.conf.id watch.wires.own) }
+        ensures logins { IfOk result (λ watch. watch.wires.logins ≡ settings.logins) }
         ensures roster { IfErr result (λ fault. fault ≢ NotOneRoster) }
     {
         let WatchSettings {
@@ -258,6 +270,7 @@ impl<S: ConfStore + Drop> Watch<S> {
         let sockets = sockets_of(rt, alloc, addresses.as_slice())?;
         let ports = port_of(rt, alloc, sockets, room, &admission)?;
         let number = conf.port();
+        let is_alone = conf.roster().sentinels().len() < 2;
         let opened = opened_of(alloc, conf, store, reboots, ports, room)?;
         note_room(rt, number, wanted, &admission);
         let state = WatchState {
@@ -265,6 +278,7 @@ impl<S: ConfStore + Drop> Watch<S> {
             turned: AtomicU64::new(0),
             stood: AtomicU64::new(0),
             ending: AtomicU64::new(0),
+            heard: AtomicU64::new(u64::from(is_alone)),
         };
         Ok(Watch {
             watching: Watching { opened, alloc },
@@ -273,9 +287,11 @@ impl<S: ConfStore + Drop> Watch<S> {
         })
     }
 
-    /// Runs its threads until the Sentinel is halted; this thread has the connections. Then they have ended, and the
-    /// Sentinel is here with its store, as the history of its turns leaves them; where a thread couldn't hand its seat
-    /// back, both are gone.
+    /// Runs its threads until the Sentinel is halted; this thread has the connections. Clients of its port are answered
+    /// once another Sentinel's hello of each master was taken, or two seconds after the start, so that a Sentinel that
+    /// was away tells no address which it would know to be an old one; at once where its file names no other Sentinel.
+    /// Then the threads have ended, and the Sentinel is here with its store, as the history of its turns leaves them;
+    /// where a thread couldn't hand its seat back, both are gone.
     ///
     /// `Halted` where the store refused a text, whichever thread met that; `PortRefused` where the system doesn't tell
     /// of the connections, and `NoMemory` where a thread or its room couldn't be made: `NotOneRoster` never comes.
@@ -326,14 +342,15 @@ where
     requires says { (message : Message) → IsReleased watching.opened.fresh.cell.start message → ∥ J.said message ∥₁ }
     requires notes { (note : Note) (number : ℕ) → IsNoted watching.opened.fresh.cell.start note number → ∥ J.noted note number ∥₁ }
     requires told { (event : Event) → ∥ J.told event ∥₁ }
+    requires reaches { (target : Target) → IsOfRoster wires.roster target → ∥ J.reaches target ∥₁ }
     ensures { IfSome result (IsLeftByTurns J.told S.held S.failure_count watching.opened.fresh.cell.start) }
 {
     run_over::<J, S, NetSockets<'_, J, N>, R>(rt, NetSockets::of(net), state, watching, wires)
 }
 
-/// Runs the threads of a Sentinel that has a name for proofs, until all have ended; this one has the connections, since
-/// a thread that is started gets no handle for sockets. What is left of it then; none where a thread or its room
-/// couldn't be made.
+/// Runs the threads of a Sentinel that has a name for proofs, until all have ended; this one has the connections, each
+/// to a node of their roster, since a thread that is started gets no handle for sockets. What is left of it then; none
+/// where a thread or its room couldn't be made.
 fn run_over<J: Which + Send + Sync, S: ConfStore + Drop + Send, C: Connects<J> + Drop, R>(
     rt: &R,
     sockets: C,
@@ -346,6 +363,7 @@ where
     requires named { watching.opened.fresh.cell.id ≡ J.cell }
     requires says { (message : Message) → IsReleased watching.opened.fresh.cell.start message → ∥ J.said message ∥₁ }
     requires notes { (note : Note) (number : ℕ) → IsNoted watching.opened.fresh.cell.start note number → ∥ J.noted note number ∥₁ }
+    requires reaches { (target : Target) → IsOfRoster wires.roster target → ∥ J.reaches target ∥₁ }
     ensures { IfSome result (IsLeftByTurns J.told S.held S.failure_count watching.opened.fresh.cell.start) }
 {
     let Watching { opened, alloc } = watching;
@@ -411,6 +429,18 @@ fn watch_parts<J: Which, S: ConfStore>(
     parts_of(alloc, member, seat, beside, ports)
 }
 
+/// Waits until another Sentinel's hello of each master was taken, for `FIRST_MS` at most, so that nobody is told an
+/// address which a failover made an old one while this Sentinel was away.
+fn await_hellos<R: Clock>(rt: &R, state: &WatchState) {
+    for _ in 0..FIRST_MS / FIRST_LOOK_MS {
+        let is_over = state.ending.load(Ordering::SeqCst) != 0;
+        if is_over || state.heard.load(Ordering::SeqCst) != 0 {
+            return;
+        }
+        thread::sleep(rt, Duration::from_millis(FIRST_LOOK_MS));
+    }
+}
+
 /// What the threads of a Sentinel of its own share. Where one of them ends, all do.
 #[derive(Clone, Copy)]
 struct WatchOf<'a, J: Which, S: ConfStore> {
@@ -436,6 +466,7 @@ impl<J: Which, S: ConfStore, R: Wait + Clock + ReadsTimes + Log> Work<WatchOf<'_
         match task {
             WatchTask::Ticks(mut ticks) => ticks.run(rt, state, member, &mut seat),
             WatchTask::Port(port) => {
+                await_hellos(rt, state);
                 serve_port(rt, &state.run, member, &mut seat, port, &state.ending)
             }
         }

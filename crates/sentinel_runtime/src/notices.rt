@@ -6,7 +6,8 @@ use crate::running_sentinel::Which;
 use ballot_law::{MAX_EPOCH, Roster, RunId};
 use log::{Log, info, warn};
 use pubsub::Channel;
-use sentinel_state::{MasterNotice, MasterThen, Notice, ReplicaNotice};
+use sentinel_state::{MasterNotice, MasterThen, Notice, ReplicaNotice, Unfit};
+use std::fmt;
 use std::sync::Wait;
 
 /// A master as notes name it, with the address that it had.
@@ -66,6 +67,92 @@ fn note_stay<J: Which, R: Log + Wait>(to: &Announcing<'_, '_, J, R>, master: Nam
     );
 }
 
+/// Notes that a failover ended since the master is up again.
+fn note_back<J: Which, R: Log + Wait>(to: &Announcing<'_, '_, J, R>, master: NamedMaster<'_>) {
+    warn!(to.log(); target: "group_sentinels::notes",
+        "-failover-abort-master-is-back master {master}: it is up again, and stays the master"
+    );
+}
+
+/// Notes that a switch ended which was asked for too long ago.
+fn note_late<J: Which, R: Log + Wait>(to: &Announcing<'_, '_, J, R>, master: NamedMaster<'_>) {
+    warn!(to.log(); target: "group_sentinels::notes",
+        "-switch-ended master {master}: it was asked for more than 5 s ago, and the master wasn't told to hand over"
+    );
+}
+
+/// Notes who is missing, where a Sentinel wasn't elected.
+fn note_short<J: Which, R: Log + Wait>(
+    to: &Announcing<'_, '_, J, R>,
+    up: u16,
+    of: u16,
+    need: u32,
+    master: NamedMaster<'_>,
+) {
+    if u32::from(up) < need {
+        warn!(to.log(); target: "group_sentinels::lookout",
+            "no failover of master {master}: {up} of {of} Sentinels are reached, {need} are needed. Start the others, or see their network"
+        );
+    } else {
+        warn!(to.log(); target: "group_sentinels::lookout",
+            "no failover of master {master} yet: {up} of {of} Sentinels are reached and {need} are needed, but fewer voted for this one: another one may lead"
+        );
+    }
+}
+
+/// Notes that a replica was given up.
+fn note_given_up<J: Which, R: Log + Wait>(
+    to: &Announcing<'_, '_, J, R>,
+    node: NamedNode,
+    master: NamedMaster<'_>,
+) {
+    let (ip, port) = (node.ip(), node.port());
+    warn!(to.log(); target: "group_sentinels::lookout",
+        "replica {ip}:{port} of master {master} was told to be the master, and refused or didn't obey in time: others go before it for twice `failover-timeout`. See what its log says, and what the Sentinels' user may do there"
+    );
+}
+
+/// Why a replica can't be promoted, in words.
+#[derive(Clone, Copy)]
+struct Told(Unfit);
+
+impl fmt::Display for Told {
+    fn fmt<W: fmt::Write>(&self, f: &mut fmt::Formatter<W>) -> fmt::Result {
+        match self.0 {
+            Unfit::Down => write!(f, "is down"),
+            Unfit::Lost => write!(f, "isn't connected"),
+            Unfit::NoPriority => write!(f, "has priority 0"),
+            Unfit::GivenUp => write!(
+                f,
+                "was told to be the master a moment ago, and refused or didn't obey"
+            ),
+            Unfit::Silent => write!(f, "hasn't answered PING or INFO for some seconds"),
+            Unfit::LinkDown(seconds) => write!(f, "lost its link to the master {seconds} s ago"),
+        }
+    }
+}
+
+/// Notes why a replica can't be promoted.
+fn note_unfit<J: Which, R: Log + Wait>(
+    to: &Announcing<'_, '_, J, R>,
+    why: Unfit,
+    node: NamedNode,
+    master: NamedMaster<'_>,
+) {
+    let (ip, port, why) = (node.ip(), node.port(), Told(why));
+    warn!(to.log(); target: "group_sentinels::lookout",
+        "no failover of master {master}: {ip}:{port} {why}"
+    );
+}
+
+/// Notes that a Sentinel that no file names asked for a vote.
+fn note_ghost<J: Which, R: Log + Wait>(to: &Announcing<'_, '_, J, R>, id: RunId) {
+    let id = NamedId(id);
+    warn!(to.log(); target: "group_sentinels::lookout",
+        "a Sentinel that no file names asked for a vote: end it and destroy its file. Its run id is {id}, and its hellos tell its address"
+    );
+}
+
 /// Tells what happened to a master. That it has another address is told by the output that says so.
 fn tell_master<J: Which, R: Log + Wait>(
     to: &Announcing<'_, '_, J, R>,
@@ -83,6 +170,8 @@ fn tell_master<J: Which, R: Log + Wait>(
             to.tell_master(Channel::SelectReplica, master);
         }
         MasterNotice::NotElected => to.tell_master(Channel::AbortNotElected, master),
+        MasterNotice::Back => note_back(to, master),
+        MasterNotice::Late => note_late(to, master),
         MasterNotice::NoReplica => to.tell_master(Channel::AbortNoGoodReplica, master),
         MasterNotice::NotPromoted => to.tell_master(Channel::AbortReplicaTimeout, master),
         MasterNotice::Ended => to.tell_master(Channel::FailoverEnd, master),
@@ -91,6 +180,7 @@ fn tell_master<J: Which, R: Log + Wait>(
         MasterNotice::AllDown => note_all_down(to, master),
         MasterNotice::PutOff { left, timeout } => note_put_off(to, left, timeout, master),
         MasterNotice::NoEpochLeft => note_spent(to, master),
+        MasterNotice::Short { up, of, need } => note_short(to, up, of, need, master),
     }
 }
 
@@ -112,6 +202,8 @@ fn tell_replica<J: Which, R: Log + Wait>(
         ReplicaNotice::Ordered => to.tell_replica(Channel::ReplicaReconfigured, node, master),
         ReplicaNotice::Converted => to.tell_replica(Channel::ConvertToReplica, node, master),
         ReplicaNotice::Corrected => to.tell_replica(Channel::FixReplicaConfig, node, master),
+        ReplicaNotice::GivenUp => note_given_up(to, node, master),
+        ReplicaNotice::Unfit(why) => note_unfit(to, why, node, master),
     }
 }
 
@@ -144,6 +236,7 @@ pub(crate) fn tell_notice<J: Which, R: Log + Wait>(
         Notice::Tilted(is_tilted) => tell_tilt(to, is_tilted),
         Notice::NewEpoch(epoch) => to.tell(Channel::NewEpoch, epoch),
         Notice::Voted { leader, epoch } => tell_vote(to, leader, epoch),
+        Notice::Ghost(id) => note_ghost(to, id),
         Notice::OfMaster { of, what } => {
             if let Some(master) = named(roster, of) {
                 tell_master(to, what, master);

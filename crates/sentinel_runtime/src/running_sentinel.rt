@@ -41,13 +41,15 @@ use std::sync::atomic::{AtomicU64, Ordering};
 use std::sync::{Mutex, Wait};
 
 /// Which Sentinel it is; what may be said in its name, which of its notes may be told, each with how many calls stand
-/// before it; and what it may be told itself. Only proofs read it.
+/// before it; what it may be told itself; and to which nodes, at which address, its connections may be. Only proofs
+/// read it.
 pub trait Which {
     ghost use Rattle.std.specs.Prelude.{ℕ};
     ghost use Rattle.atomic_table.specs.Seated.{TableId};
     ghost use Rattle.ballot_law.specs.declared.events.Event.{Event};
     ghost use Rattle.ballot_law.specs.declared.messages.Message.{Message};
     ghost use Rattle.ballot_law.specs.declared.messages.Note.{Note};
+    ghost use Rattle.links.specs.declared.target.Target.{Target};
 
     ghost cell: { TableId };
 
@@ -56,6 +58,8 @@ pub trait Which {
     ghost noted: { Note → ℕ → Type 0 };
 
     ghost told: { Event → Type 0 };
+
+    ghost reaches: { Target → Type 0 };
 }
 
 impl Which for Brand {
@@ -68,6 +72,8 @@ impl Which for Brand {
     ghost noted = { λ note number. Unit {0} };
 
     ghost told = { λ event. Unit {0} };
+
+    ghost reaches = { λ target. Unit {0} };
 }
 
 /// A Sentinel of the group, which its threads share. `far` is the last request for a vote whose epoch was too far above
@@ -147,7 +153,7 @@ impl<J: Which> ThreadSeat<J> {
         self.sight.take_nearness()
     }
 
-    /// Whether a switch was under way at the end of the last turn that a client asked for.
+    /// Whether a failover of its own was on its way to a new master at the end of the last turn.
     pub fn is_switching(&self) -> bool {
         self.sight.is_switching()
     }

@@ -46,13 +46,13 @@ fn is_campaign_near(plan: &Plan, core: &Core, at: u64, m: u16) -> bool
     flags.agreed && !flags.failing_over
 }
 
-/// Whether the failover of a master is that of a switch which a client asked for.
-fn is_any_planned(plan: &Plan, core: &Core) -> bool {
+/// Whether any failover of the Sentinel's own is on its way to a new master, by the profile.
+fn is_any_on_its_way(plan: &Plan, core: &Core) -> bool {
     if !plan.profile().is_redis() {
         return false;
     }
     for m in 0..plan.master_count() {
-        if core.is_planned(m) {
+        if core.is_on_its_way(m) {
             return true;
         }
     }
@@ -80,7 +80,8 @@ impl Nearness {
 }
 
 /// Observer: copies what a thread needs at the end of a turn: notices that nobody took yet, and of which masters a
-/// campaign comes near. `is_switching`: a client's switch is under way. `current`: the epoch after the last turn.
+/// campaign comes near. `is_switching`: a failover of
+/// its own is on its way to a new master. `current`: the epoch after the last turn.
 /// `settling`: how far that has come, if it is looked after.
 #[derive(Drop)]
 pub(crate) struct Sight {
@@ -136,7 +137,7 @@ impl Sight {
         self.nearness.come.take()
     }
 
-    /// Whether a switch was under way at the end of the last turn that a client asked for.
+    /// Whether a failover of its own was on its way to a new master at the end of the last turn.
     pub(crate) fn is_switching(&self) -> bool {
         self.is_switching
     }
@@ -169,7 +170,7 @@ impl Observer for Sight {
     fn observe(&mut self, sentinel: &Sentinel) {
         let (plan, core) = (sentinel.plan(), sentinel.core());
         self.current = core.kept().current;
-        self.is_switching = is_any_planned(plan, core);
+        self.is_switching = is_any_on_its_way(plan, core);
         self.see_ahead(plan, core);
         self.take_notices(sentinel);
     }

@@ -9,8 +9,8 @@ use Rattle.failover_states.specs.declared.states.FailoverState.{FailoverState}
 use Rattle.failover_states.specs.declared.states.FailoverState.TheVariants.{Idle, WaitStart, SelectReplica, SendPromotion, WaitPromotion, ReconfReplicas, UpdateConfig}
 use Rattle.failover_states.specs.declared.states.Row.{Row}
 use Rattle.failover_states.specs.declared.replicas.Replica.{Replica}
-use Rattle.failover_states.specs.Calls.{choice_of}
-use Rattle.failover_states.specs.Failovers.{Failover, ended}
+use Rattle.failover_states.specs.Calls.{choice_of, recalled, recalled_to}
+use Rattle.failover_states.specs.Failovers.{Failover, entering, ended}
 use Rattle.failover_states.specs.Known.{Known}
 use Rattle.failover_states.specs.Replicas.{told, forgotten, unordered, expired, is_due, is_next}
 use Rattle.failover_states.specs.Table.{TableRow, Turn, table, first_that_fits, vote_of, turn_in, turned, quieted, expiring, chosen, can_be_told, busy_count}
@@ -22,6 +22,18 @@ mapped change xs h = omega (arith, h, length-map xs change)
 
 pub few_ended : (f : Failover) → HasFewPlaces f → HasFewPlaces (ended f)
 few_ended f h = (mapped forgotten f.replicas h.0, omega arith)
+
+pub few_recalled : (now : ℕ) (f : Failover) → HasFewPlaces f → HasFewPlaces (recalled now f)
+few_recalled now f h = in_state f.state h.1
+  where
+    in_state : (state : FailoverState) → unwrap_or (choice_of state) 0 ≤ NODES_MAX → HasFewPlaces (entering (recalled_to state) now f)
+    in_state Idle c = (h.0, c)
+    in_state (WaitStart epoch) c = (h.0, c)
+    in_state (SelectReplica epoch) c = (h.0, c)
+    in_state (SendPromotion epoch choice) c = (h.0, c)
+    in_state (WaitPromotion epoch choice former) c = (h.0, c)
+    in_state (ReconfReplicas epoch choice former) c = (h.0, c)
+    in_state (UpdateConfig epoch choice) c = (h.0, c)
 
 -- each row leaves few places
 abbrev LeaveFew : List TableRow → Type 0

@@ -2,7 +2,7 @@
 
 ghost use Rattle.std.specs.Prelude.{◌≡◌};
 ghost use Rattle.ballot_law.specs.Clocks.{clock};
-ghost use Rattle.sentinel_rules.specs.News.{at_same_address, at_new_address};
+ghost use Rattle.sentinel_rules.specs.News.{at_same_address, at_new_address, wish_kept};
 ghost use Rattle.sentinel_rules.specs.Profiles.{start_at_new_address};
 ghost use Rattle.sentinel_rules.specs.States.{master_of, with_master};
 
@@ -31,6 +31,15 @@ impl Master {
         }
     }
 
+    /// A switch that was asked for, and not begun, is another one's.
+    fn forget_wish(&mut self)
+        ensures { self.new ≡ record self.old { wish = wish_kept self.old.planned self.old.wish } }
+    {
+        if self.planned.is_none() {
+            self.wish = None;
+        }
+    }
+
     /// The configuration names another address: what was said of the old one is forgotten, by the profile what the
     /// nodes told and when this Sentinel last began too.
     fn relocate(&mut self, profile: Profile, now: u64)
@@ -39,6 +48,7 @@ impl Master {
         move_all(&mut self.nodes, profile, now);
         self.reports.clear();
         self.forget_start(profile);
+        self.forget_wish();
     }
 }
 

@@ -4,17 +4,20 @@ ghost use Rattle.std.specs.Prelude.{◌≡◌, ◌<◌, ◌≤◌, length, map, 
 ghost use Rattle.ballot_law.specs.declared.rosters.TheConstants.{MASTERS_MAX, NODES_MAX, SENTINELS_MAX};
 ghost use Rattle.ballot_law.specs.Ballots.{card_of, kept_of, voted_of};
 ghost use Rattle.ballot_law.specs.Clocks.{clock};
-ghost use Rattle.sentinel_rules.specs.States.{opened, is_tilted, card_place, node_down_since, is_node_down, is_master_down, peer_down_since, is_peer_down, is_odown_at, is_failing_over, is_idle, new_master, with_current, with_card, with_node, node_of, no_node, peer_of};
+ghost use Rattle.ballot_law.specs.Watches.{passed_since};
+ghost use Rattle.sentinel_rules.specs.States.{opened, is_tilted, card_place, silent_since, later_of, stray_down_since, node_down_since, is_node_down, is_master_down, peer_down_since, is_peer_down, is_odown_at, is_failing_over, is_idle, new_master, with_current, with_card, with_node, node_of, no_node, peer_of};
 ghost use Rattle.sentinel_rules.specs.Answers.{master_with_card};
 ghost use Rattle.sentinel_rules.specs.Ticks.{with_reading};
 ghost use Rattle.sentinel_rules.specs.Plans.{roster_of, group_size, master_count};
 
 use crate::masters::Master;
-use crate::nodes::{Node, Peer, Plan};
+use crate::nodes::{Node, Peer, Plan, earlier_of};
 use crate::notices::Notices;
-use ballot_law::{Addr, Card, Info, Kept, KeptMaster, KeptMasters, NoMemory, RunId, Win};
+use crate::switches::place_followed;
+use ballot_law::{Addr, Card, Info, Kept, KeptMaster, KeptMasters, NoMemory, RunId, Win, clock_of};
 use down_detector::{Tilt, is_odown};
 use failover_states::FailoverState;
+use sentinel_rules::{ASSUMED_INFO, Profile};
 use std::alloc::{AllocError, Global};
 use std::marker::Model;
 
@@ -110,6 +113,26 @@ pub(crate) fn is_idle(stage: FailoverState) -> bool
         FailoverState::WaitPromotion { .. } => false,
         FailoverState::ReconfReplicas { .. } => false,
         FailoverState::UpdateConfig { .. } => false,
+    }
+}
+
+/// When a period had passed since a moment, where it has by this reading.
+fn passed_since(since: Option<u64>, period: u64, at: u64) -> Option<u64>
+    ensures { result ≡ passed_since since period at }
+{
+    match since {
+        Some(since) if at.saturating_sub(since) > period => Some(since + period),
+        _ => None,
+    }
+}
+
+/// The later of a moment and another one, where there is one.
+fn later_of(one: u64, other: Option<u64>) -> Option<u64>
+    ensures { result ≡ later_of (Some one) other }
+{
+    match other {
+        Some(other) => Some(one.max(other)),
+        None => None,
     }
 }
 
@@ -227,9 +250,51 @@ impl Core {
     {
         let as_master = k == card_at;
         let after_ms = plan.settings(m).after_ms;
-        match self.kept_node(m, k) {
+        let since = match self.kept_node(m, k) {
             Some(node) => node.down_since(now, after_ms, as_master, plan.reboot_ms(m)),
             None => Node::new(0).down_since(now, after_ms, as_master, plan.reboot_ms(m)),
+        };
+        earlier_of(since, self.stray_down_since(plan, m, now, card_at, k))
+    }
+
+    /// Since when the node at a place has been silent for too long.
+    fn silent_since(&self, plan: &Plan, m: u16, now: u64, place: Option<usize>) -> Option<u64>
+        ensures { result ≡ silent_since plan.now self.now m (clock now) place }
+    {
+        match place {
+            Some(k) => {
+                let after_ms = plan.settings(m).after_ms;
+                self.node(m, k).watch.sdown_since(now, after_ms, false)
+            }
+            None => None,
+        }
+    }
+
+    /// Since when the node of the configuration, which says that it is a replica, has followed one that is down, by the
+    /// profile.
+    fn stray_down_since(
+        &self,
+        plan: &Plan,
+        m: u16,
+        now: u64,
+        card_at: usize,
+        k: usize,
+    ) -> Option<u64>
+        requires { card_at ≡ card_place plan.now self.now m }
+        ensures { result ≡ stray_down_since plan.now.profile plan.now self.now m (clock now) k }
+    {
+        match plan.profile() {
+            Profile::Strict => None,
+            Profile::Redis => {
+                if k != card_at {
+                    return None;
+                }
+                let after_ms = plan.settings(m).after_ms;
+                let since = passed_since(self.replica_since(m, k), after_ms, clock_of(now))?;
+                let info = self.info(m, k).unwrap_or(ASSUMED_INFO);
+                let followed = place_followed(plan, m, info.master);
+                later_of(since, self.silent_since(plan, m, now, followed))
+            }
         }
     }
 

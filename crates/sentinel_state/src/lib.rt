@@ -10,6 +10,7 @@
 
 mod cards;
 mod cores;
+mod endings;
 mod failovers;
 mod masters;
 mod nodes;
@@ -28,5 +29,5 @@ pub use nodes::{
     FrameList, Node, Peer, Plan, Sending, greet_soon, move_all, ping_period, send_each_node,
     send_each_peer,
 };
-pub use notices::{MasterNotice, MasterThen, NOTICES_MAX, Notice, ReplicaNotice};
+pub use notices::{MasterNotice, MasterThen, NOTICES_MAX, Notice, ReplicaNotice, Unfit};
 pub use states::State;

@@ -33,8 +33,10 @@ pub(crate) struct Master {
     pub(crate) wish: Option<u64>,
     /// The epoch of that campaign.
     pub(crate) planned: Option<u64>,
-    /// Whether it refused to hand over in it.
+    /// Whether who was told to bring the new master about refused, in the last campaign.
     pub(crate) refused: bool,
+    /// When each data node was last told that it is the master, and didn't become it.
+    pub(crate) failed: Vec<Option<u64>>,
 }
 
 impl Model for Master {
@@ -56,6 +58,7 @@ impl Model for Master {
       wish = master.wish;
       planned = master.planned;
       refused = master.refused;
+      failed = master.failed.items;
     } };
 
     ghost invariant = { λ master. (length master.nodes.items ≤ NODES_MAX) × HasFewPlaces master.failover };
@@ -83,6 +86,7 @@ impl Master {
             wish: None,
             planned: None,
             refused: false,
+            failed: vec![in alloc; None; nodes as usize]?,
         })
     }
 }

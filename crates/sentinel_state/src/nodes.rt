@@ -14,8 +14,10 @@ mod sending;
 
 pub(crate) use contacts::since_after;
 pub use frame_list::FrameList;
+pub(crate) use node::earlier_of;
 pub use node::{Node, greet_soon, move_all};
 pub use peers::Peer;
 pub use plans::Plan;
 pub(crate) use plans::position_of;
+pub(crate) use sending::is_at;
 pub use sending::{Sending, ping_period, send_each_node, send_each_peer};

@@ -10,6 +10,9 @@ use std::sync::atomic::{AtomicU64, Ordering};
 /// for each of its nodes and for each Sentinel, and some ten more.
 pub const NOTICES_MAX: usize = 512;
 
+/// How long it is between two notices of Sentinels that no file names, in milliseconds.
+const GHOST_MS: u64 = 60_000;
+
 /// The same as a number of notices.
 const KEPT: u64 = NOTICES_MAX as u64;
 
@@ -37,6 +40,10 @@ pub enum MasterNotice {
     Elected,
     /// A failover ended, since the Sentinel wasn't elected.
     NotElected,
+    /// A failover ended before a replica was told, since the master is up again.
+    Back,
+    /// A switch that was asked for ended before the master was told, since that was too long ago.
+    Late,
     /// A failover ended, since no replica can be promoted.
     NoReplica,
     /// A failover ended, since its choice didn't become a master in time.
@@ -54,6 +61,25 @@ pub enum MasterNotice {
     PutOff { left: u64, timeout: u64 },
     /// No failover can begin, since the current epoch is the greatest one.
     NoEpochLeft,
+    /// It wasn't elected: of so many Sentinels so many are up, this one among them, and so many votes are needed.
+    Short { up: u16, of: u16, need: u32 },
+}
+
+/// Why a replica can't be promoted.
+#[derive(Clone, Copy)]
+pub enum Unfit {
+    /// It is subjectively down.
+    Down,
+    /// The connection to it was lost.
+    Lost,
+    /// Its priority is 0.
+    NoPriority,
+    /// It told no INFO, or answered nothing, for some seconds.
+    Silent,
+    /// It was given up a moment ago.
+    GivenUp,
+    /// Its link to the master has been down for so many seconds.
+    LinkDown(u64),
 }
 
 /// What happened to a data node of a master that isn't the one of its configuration.
@@ -73,6 +99,10 @@ pub enum ReplicaNotice {
     Converted,
     /// It followed another master, and is told to follow the one of the configuration.
     Corrected,
+    /// It was told to be a master, and refused or didn't obey in time: others go before it for a while.
+    GivenUp,
+    /// No replica can be promoted, this one for this reason.
+    Unfit(Unfit),
 }
 
 /// What a Sentinel notes. `place` is that of a data node among its master's nodes, or that of a Sentinel in the roster.
@@ -104,6 +134,8 @@ pub enum Notice {
         place: u16,
         down: bool,
     },
+    /// This one, which no file names, asked for a vote, and got none.
+    Ghost(RunId),
     /// The hello of this Sentinel brings a configuration with another address.
     Brought {
         of: MasterThen,
@@ -119,6 +151,7 @@ pub(crate) struct Notices {
     count: u64,
     taken: AtomicU64,
     is_tilted: bool,
+    ghost_at: Option<u64>,
     masters: Vec<Noted>,
 }
 
@@ -130,6 +163,7 @@ impl Notices {
             count: 0,
             taken: AtomicU64::new(0),
             is_tilted: false,
+            ghost_at: None,
             masters: vec![in alloc; Noted::new(); masters as usize]?,
         })
     }
@@ -162,6 +196,17 @@ impl Notices {
     /// This happened to a data node of a master.
     pub(crate) fn push_replica(&mut self, of: MasterThen, place: u16, what: ReplicaNotice) {
         self.push(Notice::OfReplica { of, place, what });
+    }
+
+    /// A Sentinel that no file names asked for a vote at this moment: noted once a minute.
+    pub(crate) fn see_ghost(&mut self, id: RunId, now: u64) {
+        if let Some(noted) = self.ghost_at
+            && now.saturating_sub(noted) < GHOST_MS
+        {
+            return;
+        }
+        self.ghost_at = Some(now);
+        self.push(Notice::Ghost(id));
     }
 
     /// What was noted of a master.
@@ -230,6 +275,15 @@ impl Notices {
         for place in 0..NODES_MAX {
             if ordered[place] {
                 self.push_replica(of, place as u16, ReplicaNotice::Ordered);
+            }
+        }
+    }
+
+    /// Why these data nodes of a master can't be promoted.
+    pub(crate) fn see_unfit(&mut self, of: MasterThen, unfit: &[Option<Unfit>; NODES_MAX]) {
+        for place in 0..NODES_MAX {
+            if let Some(why) = unfit[place] {
+                self.push_replica(of, place as u16, ReplicaNotice::Unfit(why));
             }
         }
     }

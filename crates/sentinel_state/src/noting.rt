@@ -9,7 +9,7 @@ ghost use Rattle.sentinel_state.specs.Sights.{is_other_down, is_replica_down};
 
 use crate::cores::Core;
 use crate::nodes::Plan;
-use crate::notices::{MasterNotice, MasterThen, Notice, ReplicaNotice};
+use crate::notices::{MasterNotice, MasterThen, Notice, ReplicaNotice, Unfit};
 use ballot_law::{Hello, MAX_EPOCH, Member, NODES_MAX, RunId, SENTINELS_MAX};
 use failover_states::Row;
 
@@ -32,6 +32,17 @@ impl Core {
         ensures { self.new ≡ self.old }
     {
         self.notices.push(Notice::Voted { leader, epoch });
+    }
+
+    /// Notes that a candidate asked for a vote which isn't heeded, since no Sentinel of the roster is it.
+    pub fn note_ghost(&mut self, now: u64, candidate: Option<RunId>, heeded: Option<RunId>)
+        ensures { self.new ≡ self.old }
+    {
+        if let Some(id) = candidate
+            && heeded.is_none()
+        {
+            self.notices.see_ghost(id, now);
+        }
     }
 
     /// Notes that this happened to a master.
@@ -91,12 +102,12 @@ impl Core {
     }
 
     /// Notes what a turn of a failover did that took this row.
-    pub(crate) fn note_row(&mut self, m: u16, row: Option<Row>)
+    pub(crate) fn note_row(&mut self, plan: &Plan, m: u16, now: u64, row: Option<Row>)
         ensures { self.new ≡ self.old }
     {
         match row {
             Some(Row::Elected) => self.note_master(m, MasterNotice::Elected),
-            Some(Row::ElectionTimeout) => self.note_master(m, MasterNotice::NotElected),
+            Some(Row::ElectionTimeout) => self.note_defeat(plan, m, now),
             Some(Row::NoReplica) => self.note_master(m, MasterNotice::NoReplica),
             Some(Row::ChoiceTimeout | Row::PromotionTimeout) => {
                 self.note_master(m, MasterNotice::NotPromoted)
@@ -105,6 +116,25 @@ impl Core {
             Some(Row::Reconfigure | Row::ReconfTimeout) => self.note_orders(m),
             Some(Row::ConfigUpdated) => self.note_master(m, MasterNotice::Ended),
             _ => {}
+        }
+    }
+
+    /// Notes that the Sentinel wasn't elected; in Redis's profile how many of the Sentinels are up, too.
+    fn note_defeat(&mut self, plan: &Plan, m: u16, now: u64)
+        ensures { self.new ≡ self.old }
+    {
+        self.note_master(m, MasterNotice::NotElected);
+        if plan.profile().is_redis() && m < plan.master_count() {
+            let of = plan.group_size();
+            let down = self.down_sentinels(plan, now);
+            let down_count = down
+                .iter()
+                .take(of as usize)
+                .filter(|is_down| **is_down)
+                .count();
+            let up = of.saturating_sub(down_count as u16);
+            let need = plan.need(m);
+            self.note_master(m, MasterNotice::Short { up, of, need });
         }
     }
 
@@ -132,6 +162,14 @@ impl Core {
     {
         let (of, ordered) = (self.then(m), self.ordered_nodes(m));
         self.notices.see_orders(of, &ordered);
+    }
+
+    /// Notes why replicas of a master can't be promoted, by their places among its nodes.
+    pub fn note_unfit(&mut self, m: u16, unfit: &[Option<Unfit>; NODES_MAX])
+        ensures { self.new ≡ self.old }
+    {
+        let of = self.then(m);
+        self.notices.see_unfit(of, unfit);
     }
 
     /// Whether the node at a place is down and isn't the one that the configuration names, which is at `card_at`.

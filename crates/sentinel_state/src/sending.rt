@@ -39,6 +39,7 @@ impl Core {
             card_place: card_at,
             is_busy: odown || self.is_failing_over(m),
             heir: self.heir(m),
+            looks: self.is_looking(plan, m, now),
         }
     }
 

@@ -1,28 +1,31 @@
 //! Switches: those that a client asked for, and those that were made at the nodes.
 
-ghost use Rattle.std.specs.Prelude.{◌≡◌, ◌<◌, None, IfSome, IsTrue, false, true, length};
+ghost use Rattle.std.specs.Prelude.{◌≡◌, ◌<◌, ◌&&◌, None, IfSome, IsTrue, false, true, length, not, is_some};
+ghost use Rattle.failover_states.specs.declared.periods.TheConstants.{ELECTION_MS};
+ghost use Rattle.sentinel_rules.specs.declared.periods.TheConstants.{WISH_MS};
 ghost use Rattle.ballot_law.specs.Clocks.{clock};
 ghost use Rattle.failover_states.specs.Calls.{epoch_of};
 ghost use Rattle.sentinel_rules.specs.Answers.{wished};
+ghost use Rattle.sentinel_rules.specs.News.{order_taker};
 ghost use Rattle.sentinel_rules.specs.Plans.{nodes_of};
-ghost use Rattle.sentinel_rules.specs.Profiles.{place_followed, is_taking_over, switched_to, is_switch_due, is_given_away, is_electing, is_asking};
-ghost use Rattle.sentinel_rules.specs.States.{is_recent, is_wished, is_same_epoch, is_planned, is_unrefused, is_awaiting, is_handed, is_master_role, says_master, says_replica, is_master_down, card_place, master_of, node_of, with_master};
+ghost use Rattle.sentinel_rules.specs.Profiles.{is_taking_over, switched_to, is_switch_due, is_given_away, is_electing, is_asking};
+ghost use Rattle.sentinel_rules.specs.States.{is_recent, is_wished, is_same_epoch, is_planned, is_unrefused, is_awaiting, is_handed, is_refused, is_at, is_master_role, says_master, says_replica, is_master_down, card_place, failover_of, master_of, node_of, with_master, is_in_progress, is_put_off, place_followed};
 ghost use Rattle.sentinel_rules.specs.Ticks.{heir_of, planned_if, with_plan};
 
 use crate::cores::Core;
 use crate::masters::Master;
-use crate::nodes::{Plan, position_of};
-use crate::pauses::is_down_for;
+use crate::nodes::{Plan, is_at, position_of};
+use crate::pauses::{is_down_for, is_held};
 use ballot_law::{Addr, DataRole, Info, clock_of};
-use failover_states::FailoverState;
+use failover_states::{ELECTION_MS, FailoverState};
 use sentinel_rules::{ASSUMED_INFO, Profile, SWITCHED_MS, WISH_MS};
 
-/// Whether a client asked a moment ago.
-fn is_recent(at: Option<u64>, now: u64) -> bool
-    ensures { result ≡ is_recent at now }
+/// Whether it was so many milliseconds ago, at most.
+fn is_recent(at: Option<u64>, ms: u64, now: u64) -> bool
+    ensures { result ≡ is_recent at ms now }
 {
     match at {
-        Some(at) => now.saturating_sub(at) <= WISH_MS,
+        Some(at) => now.saturating_sub(at) <= ms,
         None => false,
     }
 }
@@ -38,7 +41,7 @@ fn is_same_epoch(one: Option<u64>, other: Option<u64>) -> bool
 }
 
 /// Whether the choice of a failover in this state is awaited.
-fn is_awaiting(stage: FailoverState) -> bool
+pub(crate) fn is_awaiting(stage: FailoverState) -> bool
     ensures { result ≡ is_awaiting stage }
 {
     match stage {
@@ -53,7 +56,7 @@ fn is_awaiting(stage: FailoverState) -> bool
 }
 
 /// Whether votes are awaited in this state.
-fn is_electing(stage: FailoverState) -> bool
+pub(crate) fn is_electing(stage: FailoverState) -> bool
     ensures { result ≡ is_electing stage }
 {
     match stage {
@@ -88,7 +91,7 @@ fn says_master(info: Option<Info>) -> bool
 }
 
 /// Whether the last INFO of a node says that it is a replica.
-fn says_replica(info: Option<Info>) -> bool
+pub(crate) fn says_replica(info: Option<Info>) -> bool
     ensures { result ≡ says_replica info }
 {
     match info {
@@ -98,7 +101,7 @@ fn says_replica(info: Option<Info>) -> bool
 }
 
 /// The place of the node at an address.
-fn place_followed(plan: &Plan, m: u16, addr: Option<Addr>) -> Option<usize>
+pub(crate) fn place_followed(plan: &Plan, m: u16, addr: Option<Addr>) -> Option<usize>
     ensures value { result ≡ place_followed plan.now m addr }
     ensures within { IfSome result (λ k. k < length (nodes_of plan.now m)) }
 {
@@ -112,18 +115,22 @@ impl Master {
     /// Its failover began: where it is that of a switch which a client asked for, its epoch is kept.
     fn plan_switch(&mut self, now: u64)
         ensures { self.new ≡ record self.old {
-          wish = None;
-          planned = planned_if (is_recent self.old.wish (clock now)) (epoch_of self.old.failover.state);
+          planned = planned_if (is_recent self.old.wish WISH_MS (clock now) && not (is_some self.old.planned))
+              (epoch_of self.old.failover.state) self.old.planned;
           refused = false;
         } }
     {
-        self.planned = if is_recent(self.wish, clock_of(now)) {
-            self.failover.epoch()
-        } else {
-            None
-        };
-        self.wish = None;
+        if self.is_wished(now) {
+            self.planned = self.failover.epoch();
+        }
         self.refused = false;
+    }
+
+    /// Whether a client asked a moment ago that it hand over, and the campaign for that is to begin.
+    fn is_wished(&self, now: u64) -> bool
+        ensures { result ≡ (is_recent self.now.wish WISH_MS (clock now) && not (is_some self.now.planned)) }
+    {
+        is_recent(self.wish, WISH_MS, clock_of(now)) && self.planned.is_none()
     }
 }
 
@@ -134,9 +141,40 @@ impl Core {
         ensures here { IsTrue result → m < length self.now.masters }
     {
         match self.masters.get(m as usize) {
-            Some(master) => is_recent(master.wish, clock_of(now)),
+            Some(master) => master.is_wished(now),
             None => false,
         }
+    }
+
+    /// When a client last asked that a master hand over.
+    fn last_wish(&self, m: u16) -> Option<u64>
+        ensures { result ≡ (master_of self.now m).wish }
+    {
+        match self.masters.get(m as usize) {
+            Some(master) => master.wish,
+            None => None,
+        }
+    }
+
+    /// Whether a client asked within so many milliseconds that a master hand over.
+    pub(crate) fn was_wished(&self, m: u16, ms: u64, now: u64) -> bool
+        ensures { result ≡ is_recent (master_of self.now m).wish ms (clock now) }
+    {
+        is_recent(self.last_wish(m), ms, clock_of(now))
+    }
+
+    /// Whether a failover of the master runs, or a client asked for a switch within the time of an election.
+    pub fn is_in_progress(&self, m: u16, now: u64) -> bool
+        ensures { result ≡ is_in_progress self.now m (clock now) }
+    {
+        self.is_failing_over(m) || self.was_wished(m, ELECTION_MS, now)
+    }
+
+    /// Whether the own campaign is put off, after a failover or a vote.
+    pub fn is_put_off(&self, m: u16, now: u64) -> bool
+        ensures { result ≡ is_put_off self.now m (clock now) }
+    {
+        is_held(self.last_start(m), clock_of(now))
     }
 
     /// A client asks that a master hand over; nothing where there is no such master.
@@ -145,6 +183,7 @@ impl Core {
     {
         if let Some(master) = self.masters.get_mut(m as usize) {
             master.wish = Some(clock_of(now));
+            master.planned = None;
         }
     }
 
@@ -184,6 +223,32 @@ impl Core {
         self.is_planned(m) && is_awaiting(self.stage(m))
     }
 
+    /// Whether who was told in a failover to bring the new master about refused.
+    pub(crate) fn is_refused(&self, m: u16) -> bool
+        ensures { result ≡ is_refused self.now m }
+    {
+        is_awaiting(self.stage(m)) && self.has_refused(m)
+    }
+
+    /// The place of who was told in a failover to bring the new master about: in a switch that a client asked for the
+    /// master, else the choice.
+    fn order_taker(&self, plan: &Plan, m: u16) -> Option<u16>
+        ensures { result ≡ order_taker plan.now self.now m }
+    {
+        if self.is_planned(m) {
+            Some(self.card_place(plan, m) as u16)
+        } else {
+            self.choice(m)
+        }
+    }
+
+    /// Whether a failover awaits what the data node at this place was told to bring about.
+    pub fn is_order_taker(&self, plan: &Plan, m: u16, k: usize) -> bool
+        ensures { result ≡ (is_awaiting (failover_of self.now m).state && is_at (order_taker plan.now self.now m) k) }
+    {
+        is_awaiting(self.stage(m)) && is_at(self.order_taker(plan, m), k)
+    }
+
     /// The place of that choice.
     pub(crate) fn heir(&self, m: u16) -> Option<u16>
         ensures { result ≡ heir_of self.now m }
@@ -195,7 +260,7 @@ impl Core {
         }
     }
 
-    /// Whether a master refused to hand over in the last switch that a client asked for.
+    /// Whether who was told to bring the new master about refused, in the last campaign.
     pub(crate) fn has_refused(&self, m: u16) -> bool
         ensures { result ≡ (master_of self.now m).refused }
     {
@@ -205,7 +270,7 @@ impl Core {
         }
     }
 
-    /// A master refuses to hand over; nothing where there is no such master.
+    /// Who was told to bring the new master about refuses; nothing where there is no such master.
     pub fn refuse(&mut self, m: u16)
         ensures { self.new ≡ with_master self.old m (record (master_of self.old m) { refused = true }) }
     {
@@ -215,7 +280,7 @@ impl Core {
     }
 
     /// Since when a data node has said that it is a replica.
-    fn replica_since(&self, m: u16, k: usize) -> Option<u64>
+    pub fn replica_since(&self, m: u16, k: usize) -> Option<u64>
         ensures value { result ≡ (node_of self.now m k).watch.replica_since }
         ensures here { IfSome result (λ _. m < length self.now.masters) }
     {

@@ -8,10 +8,11 @@ use Rattle.ballot_law.specs.declared.events.Event.TheVariants as events
 use Rattle.ballot_law.specs.declared.messages.Message.{Message}
 use Rattle.ballot_law.specs.Limits.{IsWithinEvent}
 use Rattle.links.specs.declared.sessions.fault.LinkFault.{LinkFault}
+use Rattle.links.specs.declared.sessions.heard.Heard.{Heard}
 use Rattle.links.specs.declared.sessions.questions.Question.{Question}
 use Rattle.links.specs.declared.target.Target.{Target}
 use Rattle.links.specs.NodeLinks.{State, IsHeardOn}
-use Rattle.links.specs.Sessions.Links.{Link, IsHeard, IsBroken, Receives}
+use Rattle.links.specs.Sessions.Links.{Link, events_in, IsHeard, IsBroken, Receives}
 use Rattle.links.proofs.SessionsLemmas.Joining.{pieces_join}
 use Rattle.tcp_transport.specs.Hearing.{IsTakeable}
 use Rattle.tcp_transport.specs.Said.{Speaks}
@@ -38,10 +39,10 @@ takeable : (told : Event → Type 0) (target : Target) (events : List Event) →
 takeable told target [] h = tt
 takeable told target (event ∷ events) h = ((within target event h.0.0, inr h.0.1), takeable told target events h.1)
 
-pub all_takeable : (told : Event → Type 0) (target : Target) (before events : List Event) → before ≡ []
-    → (more : List Event) × (events ≡ before ++ more) × AllByRecursion (IsToldOn told target) more → AllByRecursion (IsTakeable told) events
-all_takeable told target before events none h =
-    let is : events ≡ h.0 = h.1 ∙ ap (λ (t : List Event). t ++ h.0) none in
+pub all_takeable : (told : Event → Type 0) (target : Target) (before all : List Heard) → before ≡ []
+    → (more : List Event) × (events_in all ≡ events_in before ++ more) × AllByRecursion (IsToldOn told target) more → AllByRecursion (IsTakeable told) (events_in all)
+all_takeable told target before all none h =
+    let is : events_in all ≡ h.0 = h.1 ∙ ap (λ (t : List Heard). events_in t ++ h.0) none in
     subst (AllByRecursion (IsTakeable told)) (sym is) (takeable told target h.0 h.2)
 
 -- ---- what the bytes of a read tell
@@ -74,11 +75,11 @@ are_told : (target : Target) (asked left : List Question) (stream held : List �
 are_told target asked left stream held events (Ok x) k = record { values = k.values; rest = k.rest; parts = k.parts; left = left; tells = k.tells }
 are_told target asked left stream held events (Err why) k = record { values = k.values; rest = k.rest; parts = k.parts; left = k.left; tells = k.tells }
 
-tell_each : (said : Message → Type 0) (told : Event → Type 0) (stands : Target → (put got : List ℕ) → Type 0) (s : State) (piece : List ℕ) (before more : List Event)
-    → (h : IsWhole said stands s) → MayTell said told stands piece → AreTold s.target h.session.asked (h.got ++ piece) (before ++ more)
+tell_each : (said : Message → Type 0) (reaches : Target → Type 0) (told : Event → Type 0) (stands : Target → (put got : List ℕ) → Type 0) (s : State) (piece : List ℕ) (before more : List Event)
+    → (h : IsWhole said reaches stands s) → MayTell said told stands piece → AreTold s.target h.session.asked (h.got ++ piece) (before ++ more)
     → AllByRecursion (IsHeardOn s.target) more → AllByRecursion (IsToldOn told s.target) more
-tell_each said told stands s piece before [] h may k on = tt
-tell_each said told stands s piece before (event ∷ more) h may k on =
+tell_each said reaches told stands s piece before [] h may k on = tt
+tell_each said reaches told stands s piece before (event ∷ more) h may k on =
     let one : IsTold said s.target h.put (h.got ++ piece) event =
     record {
       asked = h.session.asked;
@@ -89,39 +90,39 @@ tell_each said told stands s piece before (event ∷ more) h may k on =
       told = k;
     } in
     let rest = subst (AreTold s.target h.session.asked (h.got ++ piece)) (sym (append_assoc before (event ∷ []) more)) k in
-    ((on.0, may s.target h.put h.got h.socket event one), tell_each said told stands s piece (before ++ event ∷ []) more h may rest on.1)
+    ((on.0, may s.target h.put h.got h.socket event one), tell_each said reaches told stands s piece (before ++ event ∷ []) more h may rest on.1)
 
-told_by : (said : Message → Type 0) (told : Event → Type 0) (stands : Target → (put got : List ℕ) → Type 0) (s : State) (piece held : List ℕ) (left : List Question)
-    (events now : List Event) (result : Result (Unit {0}) LinkFault) → IsWhole said stands s → MayTell said told stands piece
+told_by : (said : Message → Type 0) (reaches : Target → Type 0) (told : Event → Type 0) (stands : Target → (put got : List ℕ) → Type 0) (s : State) (piece held : List ℕ) (left : List Question)
+    (events now : List Event) (result : Result (Unit {0}) LinkFault) → IsWhole said reaches stands s → MayTell said told stands piece
     → (more : List Event) × (now ≡ events ++ more) × AllByRecursion (IsHeardOn s.target) more
     × Receives s.target.node s.target.listens s.talk.asked (s.talk.held ++ piece) result more left held
     → (more : List Event) × (now ≡ events ++ more) × AllByRecursion (IsToldOn told s.target) more
-told_by said told stands s piece held left events now result h may k =
+told_by said reaches told stands s piece held left events now result h may k =
     let whole = with_piece s.target h.session.asked left h.got piece held s.talk k.0 result h.session.heard k.3 in
-    (k.0, k.1, tell_each said told stands s piece whole.0 k.0 h may (are_told s.target h.session.asked left (h.got ++ piece) held (whole.0 ++ k.0) result whole.1) k.2)
+    (k.0, k.1, tell_each said reaches told stands s piece whole.0 k.0 h may (are_told s.target h.session.asked left (h.got ++ piece) held (whole.0 ++ k.0) result whole.1) k.2)
 
-pub told_heard : (said : Message → Type 0) (told : Event → Type 0) (stands : Target → (put got : List ℕ) → Type 0) (s : State) (piece held : List ℕ) (left : List Question)
-    (events now : List Event) → IsWhole said stands s → MayTell said told stands piece
+pub told_heard : (said : Message → Type 0) (reaches : Target → Type 0) (told : Event → Type 0) (stands : Target → (put got : List ℕ) → Type 0) (s : State) (piece held : List ℕ) (left : List Question)
+    (events now : List Event) → IsWhole said reaches stands s → MayTell said told stands piece
     → (more : List Event) × (now ≡ events ++ more) × AllByRecursion (IsHeardOn s.target) more
     × IsHeard s.target.node s.target.listens s.talk.asked (s.talk.held ++ piece) more left held
     → (more : List Event) × (now ≡ events ++ more) × AllByRecursion (IsToldOn told s.target) more
-told_heard said told stands s piece held left events now h may k = told_by said told stands s piece held left events now (Ok tt) h may k
+told_heard said reaches told stands s piece held left events now h may k = told_by said reaches told stands s piece held left events now (Ok tt) h may k
 
-pub told_broken : (said : Message → Type 0) (told : Event → Type 0) (stands : Target → (put got : List ℕ) → Type 0) (s : State) (piece : List ℕ) (why : LinkFault)
-    (events now : List Event) → IsWhole said stands s → MayTell said told stands piece
+pub told_broken : (said : Message → Type 0) (reaches : Target → Type 0) (told : Event → Type 0) (stands : Target → (put got : List ℕ) → Type 0) (s : State) (piece : List ℕ) (why : LinkFault)
+    (events now : List Event) → IsWhole said reaches stands s → MayTell said told stands piece
     → (more : List Event) × (now ≡ events ++ more) × AllByRecursion (IsHeardOn s.target) more
     × IsBroken s.target.node s.target.listens s.talk.asked (s.talk.held ++ piece) why more
     → (more : List Event) × (now ≡ events ++ more) × AllByRecursion (IsToldOn told s.target) more
-told_broken said told stands s piece why events now h may k = told_by said told stands s piece [] [] events now (Err why) h may k
+told_broken said reaches told stands s piece why events now h may k = told_by said reaches told stands s piece [] [] events now (Err why) h may k
 
 -- ---- what a read leaves
 
-pub whole_heard : (said : Message → Type 0) (a b : Target → (put got : List ℕ) → Type 0) (s t : State) (piece : List ℕ) (events now : List Event) → IsWhole said a s
+pub whole_heard : (said : Message → Type 0) (reaches : Target → Type 0) (a b : Target → (put got : List ℕ) → Type 0) (s t : State) (piece : List ℕ) (events now : List Event) → IsWhole said reaches a s
     → Gets a b piece
     → (more : List Event) × (now ≡ events ++ more) × AllByRecursion (IsHeardOn s.target) more
     × IsHeard s.target.node s.target.listens s.talk.asked (s.talk.held ++ piece) more t.talk.asked t.talk.held
-    → t.talk.unsent ≡ s.talk.unsent → t.target ≡ s.target → IsWhole said b t
-whole_heard said a b s t piece events now h read k unsent to =
+    → t.talk.unsent ≡ s.talk.unsent → t.target ≡ s.target → IsWhole said reaches b t
+whole_heard said reaches a b s t piece events now h read k unsent to =
     let all = with_piece s.target h.session.asked t.talk.asked h.got piece t.talk.held s.talk k.0 (Ok tt) h.session.heard k.3 in
     let session : IsSession said s.target h.put (h.got ++ piece) t.talk =
     record {
@@ -129,10 +130,10 @@ whole_heard said a b s t piece events now h read k unsent to =
       speaks = subst (λ (x : List ℕ). Speaks said s.target (h.put ++ x) h.session.asked) (sym unsent) h.session.speaks;
       heard = inr (all.0 ++ k.0, all.1);
     } in
-    whole_at said b s.target t.talk h.put (h.got ++ piece) t (read s.target h.put h.got h.socket) session to refl
+    whole_at said reaches b s.target t.talk h.put (h.got ++ piece) t h.reached (read s.target h.put h.got h.socket) session to refl
 
-pub whole_quiet : (said : Message → Type 0) (a b : Target → (put got : List ℕ) → Type 0) (s : State) → IsWhole said a s → IsQuiet a b → IsWhole said b s
-whole_quiet said a b s h quiet = record { put = h.put; got = h.got; socket = quiet s.target h.put h.got h.socket; session = h.session }
+pub whole_quiet : (said : Message → Type 0) (reaches : Target → Type 0) (a b : Target → (put got : List ℕ) → Type 0) (s : State) → IsWhole said reaches a s → IsQuiet a b → IsWhole said reaches b s
+whole_quiet said reaches a b s h quiet = record { reached = h.reached; put = h.put; got = h.got; socket = quiet s.target h.put h.got h.socket; session = h.session }
 
 pub quiet_end : (a b : Target → (put got : List ℕ) → Type 0) (room : List ℕ) → Gets a b (take 0 room) → IsQuiet a b
 quiet_end a b room h = λ target put got is. subst (b target put) (append-nil got) (h target put got is)

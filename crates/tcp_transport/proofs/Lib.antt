@@ -1,4 +1,5 @@
 pub mod Hearing
+pub mod Places
 pub mod Replicas
 pub mod Sending
 pub mod Sessions

@@ -41,13 +41,14 @@ sends_twice a b c s t u h k = record {
 }
 
 -- what was taken is put out, and what is unsent is the rest
-pub whole_sent : (said : Message → Type 0) (a b : Target → (put got : List ℕ) → Type 0) (s t : State) → IsWhole said a s → Sends a b s t → IsWhole said b t
-whole_sent said a b s t h k =
+pub whole_sent : (said : Message → Type 0) (reaches : Target → Type 0) (a b : Target → (put got : List ℕ) → Type 0) (s t : State) → IsWhole said reaches a s → Sends a b s t
+    → IsWhole said reaches b t
+whole_sent said reaches a b s t h k =
     let session : IsSession said s.target (h.put ++ k.gone) h.got (record s.talk { unsent = t.talk.unsent }) =
     record {
       asked = h.session.asked;
       speaks = subst (λ (x : List ℕ). Speaks said s.target x h.session.asked) (ap (λ (x : List ℕ). h.put ++ x) k.front ∙ sym (append_assoc h.put k.gone t.talk.unsent)) h.session.speaks;
       heard = h.session.heard;
     } in
-    whole_at said b s.target (record s.talk { unsent = t.talk.unsent }) (h.put ++ k.gone) h.got t (k.written s.target h.put h.got h.socket) session
+    whole_at said reaches b s.target (record s.talk { unsent = t.talk.unsent }) (h.put ++ k.gone) h.got t h.reached (k.written s.target h.put h.got h.socket) session
     (ap (λ (x : State). x.target) k.rest) (ap (λ (x : State). x.talk) k.rest)

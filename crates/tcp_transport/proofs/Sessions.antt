@@ -88,9 +88,10 @@ session_all said target put got (body ∷ bodies) talk silent own h =
 
 -- ---- a connection and its socket
 
-pub whole_at : (said : Message → Type 0) (stands : Target → (put got : List ℕ) → Type 0) (target : Target) (talk : Link) (put got : List ℕ) (t : State)
-    → stands target put got → IsSession said target put got talk → t.target ≡ target → t.talk ≡ talk → IsWhole said stands t
-whole_at said stands target talk put got t socket session to is = record {
+pub whole_at : (said : Message → Type 0) (reaches : Target → Type 0) (stands : Target → (put got : List ℕ) → Type 0) (target : Target) (talk : Link) (put got : List ℕ) (t : State)
+    → ∥ reaches target ∥₁ → stands target put got → IsSession said target put got talk → t.target ≡ target → t.talk ≡ talk → IsWhole said reaches stands t
+whole_at said reaches stands target talk put got t reached socket session to is = record {
+  reached = subst (λ (x : Target). ∥ reaches x ∥₁) (sym to) reached;
   put = put;
   got = got;
   socket = subst (λ (x : Target). stands x put got) (sym to) socket;
@@ -98,34 +99,42 @@ whole_at said stands target talk put got t socket session to is = record {
 }
 
 -- other times of the connection
-pub whole_timed : (said : Message → Type 0) (stands : Target → (put got : List ℕ) → Type 0) (schedule : Schedule) (s t : State) → IsWhole said stands s
-    → t ≡ record s { schedule = schedule } → IsWhole said stands t
-whole_timed said stands schedule s t h is =
-    whole_at said stands s.target s.talk h.put h.got t h.socket h.session (ap (λ (x : State). x.target) is) (ap (λ (x : State). x.talk) is)
+pub whole_timed : (said : Message → Type 0) (reaches : Target → Type 0) (stands : Target → (put got : List ℕ) → Type 0) (schedule : Schedule) (s t : State) → IsWhole said reaches stands s
+    → t ≡ record s { schedule = schedule } → IsWhole said reaches stands t
+whole_timed said reaches stands schedule s t h is =
+    whole_at said reaches stands s.target s.talk h.put h.got t h.reached h.socket h.session (ap (λ (x : State). x.target) is) (ap (λ (x : State). x.talk) is)
 
 -- without a socket
-pub whole_fresh : (said : Message → Type 0) (target : Target) (t : State) → t.target ≡ target → t.talk ≡ fresh target → IsWhole said NoSocket t
-whole_fresh said target t to is = whole_at said NoSocket target (fresh target) [] [] t (refl, refl) (session_fresh said target) to is
+pub whole_fresh : (said : Message → Type 0) (reaches : Target → Type 0) (target : Target) (t : State) → ∥ reaches target ∥₁ → t.target ≡ target → t.talk ≡ fresh target
+    → IsWhole said reaches NoSocket t
+whole_fresh said reaches target t reached to is =
+    whole_at said reaches NoSocket target (fresh target) [] [] t reached (refl, refl) (session_fresh said target) to is
 
-pub whole_left : {S : Type 0} (said : Message → Type 0) (stands : S → Target → (put got : List ℕ) → Type 0) (socket : Option S) (target : Target) (t : State)
-    → socket ≡ None → t.target ≡ target → t.talk ≡ fresh target → IsWhole said (stands_of stands socket) t
-whole_left {S} said stands socket target t none to is =
-    subst (λ (x : Option S). IsWhole said (stands_of stands x) t) (sym none) (whole_fresh said target t to is)
+-- its socket is gone
+pub whole_closed : (said : Message → Type 0) (reaches : Target → Type 0) (stands : Target → (put got : List ℕ) → Type 0) (s t : State)
+    → IsWhole said reaches stands s → t.target ≡ s.target → t.talk ≡ fresh s.target → IsWhole said reaches NoSocket t
+whole_closed said reaches stands s t h to is = whole_fresh said reaches s.target t h.reached to is
+
+pub whole_left : {S : Type 0} (said : Message → Type 0) (reaches : Target → Type 0) (before : Target → (put got : List ℕ) → Type 0)
+    (stands : S → Target → (put got : List ℕ) → Type 0) (socket : Option S) (s t : State)
+    → IsWhole said reaches before s → socket ≡ None → t.target ≡ s.target → t.talk ≡ fresh s.target → IsWhole said reaches (stands_of stands socket) t
+whole_left {S} said reaches before stands socket s t h none to is =
+    subst (λ (x : Option S). IsWhole said reaches (stands_of stands x) t) (sym none) (whole_closed said reaches before s t h to is)
 
 -- with a socket that is new
-pub whole_opened : (said : Message → Type 0) (stands : Target → (put got : List ℕ) → Type 0) (now : ℕ) (login : Login) (s t : State)
-    → t ≡ opening_at now login s → stands t.target [] [] → IsWhole said stands t
-whole_opened said stands now login s t is new =
+pub whole_opened : (said : Message → Type 0) (reaches : Target → Type 0) (stands : Target → (put got : List ℕ) → Type 0) (now : ℕ) (login : Login) (s t : State)
+    → ∥ reaches s.target ∥₁ → t ≡ opening_at now login s → stands t.target [] [] → IsWhole said reaches stands t
+whole_opened said reaches stands now login s t reached is new =
     let to : t.target ≡ s.target = ap (λ (x : State). x.target) is in
-    whole_at said stands s.target (opening_at now login s).talk [] [] t (subst (λ (x : Target). stands x [] []) to new) (session_first said s.target login) to
+    whole_at said reaches stands s.target (opening_at now login s).talk [] [] t reached (subst (λ (x : Target). stands x [] []) to new) (session_first said s.target login) to
     (ap (λ (x : State). x.talk) is)
 
 -- ---- one word more
 
-whole_word : (said : Message → Type 0) (stands : Target → (put got : List ℕ) → Type 0) (word : Word) (s t : State) → IsWhole said stands s → s.target.listens ≡ false
-    → MaySay said s.target word → t.target ≡ s.target → t.talk ≡ with_word word s.talk → IsWhole said stands t
-whole_word said stands word s t h silent may to is =
-    whole_at said stands s.target (with_word word s.talk) h.put h.got t h.socket (session_word said s.target h.put h.got s.talk word silent h.session may) to is
+whole_word : (said : Message → Type 0) (reaches : Target → Type 0) (stands : Target → (put got : List ℕ) → Type 0) (word : Word) (s t : State) → IsWhole said reaches stands s → s.target.listens ≡ false
+    → MaySay said s.target word → t.target ≡ s.target → t.talk ≡ with_word word s.talk → IsWhole said reaches stands t
+whole_word said reaches stands word s t h silent may to is =
+    whole_at said reaches stands s.target (with_word word s.talk) h.put h.got t h.reached h.socket (session_word said s.target h.put h.got s.talk word silent h.session may) to is
 
 abbrev is_open : Stage → Bool
 is_open Open = true
@@ -136,38 +145,38 @@ shut_at : (stage : Stage) → is_open stage ≡ false → stage ≢ Open
 shut_at stage shut same = false≢true (sym shut ∙ ap is_open same)
 
 -- a word joins what is unsent only on an open connection
-whole_where_open : (said : Message → Type 0) (stands : Target → (put got : List ℕ) → Type 0) (s t u : State) → IsWhole said stands s → IsWhole said stands u
-    → (s.schedule.stage ≢ Open → t ≡ s) → (s.schedule.stage ≡ Open → t ≡ u) → IsWhole said stands t
-whole_where_open said stands s t u h k shut ok = by_stage s.schedule.stage refl where
-  by_stage : (stage : Stage) → s.schedule.stage ≡ stage → IsWhole said stands t
-  by_stage Open is = subst (IsWhole said stands) (sym (ok is)) k
-  by_stage Opening is = subst (IsWhole said stands) (sym (shut (λ at. shut_at Opening refl (sym is ∙ at)))) h
-  by_stage Closed is = subst (IsWhole said stands) (sym (shut (λ at. shut_at Closed refl (sym is ∙ at)))) h
+whole_where_open : (said : Message → Type 0) (reaches : Target → Type 0) (stands : Target → (put got : List ℕ) → Type 0) (s t u : State) → IsWhole said reaches stands s → IsWhole said reaches stands u
+    → (s.schedule.stage ≢ Open → t ≡ s) → (s.schedule.stage ≡ Open → t ≡ u) → IsWhole said reaches stands t
+whole_where_open said reaches stands s t u h k shut ok = by_stage s.schedule.stage refl where
+  by_stage : (stage : Stage) → s.schedule.stage ≡ stage → IsWhole said reaches stands t
+  by_stage Open is = subst (IsWhole said reaches stands) (sym (ok is)) k
+  by_stage Opening is = subst (IsWhole said reaches stands) (sym (shut (λ at. shut_at Opening refl (sym is ∙ at)))) h
+  by_stage Closed is = subst (IsWhole said reaches stands) (sym (shut (λ at. shut_at Closed refl (sym is ∙ at)))) h
 
 -- a message to its node that may be said
-pub whole_message : (said : Message → Type 0) (stands : Target → (put got : List ℕ) → Type 0) (now : ℕ) (message : Message) (s t : State) → IsWhole said stands s
+pub whole_message : (said : Message → Type 0) (reaches : Target → Type 0) (stands : Target → (put got : List ℕ) → Type 0) (now : ℕ) (message : Message) (s t : State) → IsWhole said reaches stands s
     → ∥ said message ∥₁ → s.target.node ≡ message.target → s.target.listens ≡ false → (s.schedule.stage ≢ Open → t ≡ s)
-    → (s.schedule.stage ≡ Open → t ≡ asked_at now message.body s) → IsWhole said stands t
-whole_message said stands now message s t h may to silent =
-    whole_where_open said stands s t (asked_at now message.body s) h
-    (whole_word said stands (word_for message.body) s (asked_at now message.body s) h silent (inr (inl (record { message = message; may = may; is_to = sym to; is = refl }))) refl refl)
+    → (s.schedule.stage ≡ Open → t ≡ asked_at now message.body s) → IsWhole said reaches stands t
+whole_message said reaches stands now message s t h may to silent =
+    whole_where_open said reaches stands s t (asked_at now message.body s) h
+    (whole_word said reaches stands (word_for message.body) s (asked_at now message.body s) h silent (inr (inl (record { message = message; may = may; is_to = sym to; is = refl }))) refl refl)
 
-pub whole_ack : (said : Message → Type 0) (stands : Target → (put got : List ℕ) → Type 0) (now number : ℕ) (s t : State) → IsWhole said stands s → s.target.listens ≡ false
-    → s.target.node ≡ StoreAt number → (s.schedule.stage ≢ Open → t ≡ s) → (s.schedule.stage ≡ Open → t ≡ ack_asked_at now s) → IsWhole said stands t
-whole_ack said stands now number s t h silent is =
+pub whole_ack : (said : Message → Type 0) (reaches : Target → Type 0) (stands : Target → (put got : List ℕ) → Type 0) (now number : ℕ) (s t : State) → IsWhole said reaches stands s → s.target.listens ≡ false
+    → s.target.node ≡ StoreAt number → (s.schedule.stage ≢ Open → t ≡ s) → (s.schedule.stage ≡ Open → t ≡ ack_asked_at now s) → IsWhole said reaches stands t
+whole_ack said reaches stands now number s t h silent is =
     let node : IsDataNode s.target.node = subst IsDataNode (sym is) tt in
-    whole_where_open said stands s t (ack_asked_at now s) h (whole_word said stands ack_word s (ack_asked_at now s) h silent (inl (inr (node, refl))) refl refl)
+    whole_where_open said reaches stands s t (ack_asked_at now s) h (whole_word said reaches stands ack_word s (ack_asked_at now s) h silent (inl (inr (node, refl))) refl refl)
 
-pub whole_row : (said : Message → Type 0) (stands : Target → (put got : List ℕ) → Type 0) (now : ℕ) (name : List ℕ) (is_asked : Bool) (s t : State)
-    → IsWhole said stands s → s.target.listens ≡ false → (IsTrue is_asked → (length s.talk.asked ≤ 0) × (t ≡ row_asked_at now name s)) → (IsFalse is_asked → t ≡ s)
-    → IsWhole said stands t
-whole_row said stands now name true s t h silent asked unasked =
-    subst (IsWhole said stands) (sym (asked refl).1)
-    (whole_word said stands (row_word name) s (row_asked_at now name s) h silent (inr (inr (name, refl))) refl refl)
-whole_row said stands now name false s t h silent asked unasked = subst (IsWhole said stands) (sym (unasked refl)) h
+pub whole_row : (said : Message → Type 0) (reaches : Target → Type 0) (stands : Target → (put got : List ℕ) → Type 0) (now : ℕ) (name : List ℕ) (is_asked : Bool) (s t : State)
+    → IsWhole said reaches stands s → s.target.listens ≡ false → (IsTrue is_asked → (length s.talk.asked ≤ 0) × (t ≡ row_asked_at now name s)) → (IsFalse is_asked → t ≡ s)
+    → IsWhole said reaches stands t
+whole_row said reaches stands now name true s t h silent asked unasked =
+    subst (IsWhole said reaches stands) (sym (asked refl).1)
+    (whole_word said reaches stands (row_word name) s (row_asked_at now name s) h silent (inr (inr (name, refl))) refl refl)
+whole_row said reaches stands now name false s t h silent asked unasked = subst (IsWhole said reaches stands) (sym (unasked refl)) h
 
 -- what it asks by itself
-pub whole_own : (said : Message → Type 0) (stands : Target → (put got : List ℕ) → Type 0) (s t : State) → IsWhole said stands s → s.target.listens ≡ false
-    → AsksByItself s.target.node s.talk t.talk → t.target ≡ s.target → IsWhole said stands t
-whole_own said stands s t h silent own to =
-    whole_at said stands s.target (put_all own.0 s.talk) h.put h.got t h.socket (session_all said s.target h.put h.got own.0 s.talk silent own.1 h.session) to own.2
+pub whole_own : (said : Message → Type 0) (reaches : Target → Type 0) (stands : Target → (put got : List ℕ) → Type 0) (s t : State) → IsWhole said reaches stands s → s.target.listens ≡ false
+    → AsksByItself s.target.node s.talk t.talk → t.target ≡ s.target → IsWhole said reaches stands t
+whole_own said reaches stands s t h silent own to =
+    whole_at said reaches stands s.target (put_all own.0 s.talk) h.put h.got t h.reached h.socket (session_all said s.target h.put h.got own.0 s.talk silent own.1 h.session) to own.2

@@ -1,5 +1,6 @@
 pub mod Hearing
 pub mod Logins
+pub mod Places
 pub mod Replicas
 pub mod Said
 pub mod Sessions

@@ -4,7 +4,7 @@ use Rattle.std.specs.List.{AllByRecursion}
 use Rattle.ballot_law.specs.declared.messages.Body.{Body}
 use Rattle.ballot_law.specs.declared.messages.Message.{Message}
 use Rattle.links.specs.declared.sessions.questions.Question.{Question}
-use Rattle.links.specs.declared.sessions.questions.Question.TheVariants.{Order}
+use Rattle.links.specs.declared.sessions.questions.Question.TheVariants.{Order, Row}
 use Rattle.links.specs.declared.speaking.Login.{Login}
 use Rattle.links.specs.declared.target.Target.{Target}
 use Rattle.links.specs.NodeLinks.{IsDataNode, IsOwn}
@@ -21,7 +21,7 @@ word_for body = record { bytes = bytes_for body; asked = questions_for body }
 
 -- the question for the row of a master, by its name
 abbrev pub row_word : List ℕ → Word
-row_word name = record { bytes = row_bytes name; asked = Order ∷ [] }
+row_word name = record { bytes = row_bytes name; asked = Row ∷ [] }
 
 -- that a replica is to acknowledge its master's stream
 abbrev pub ack_word : Word

@@ -21,8 +21,9 @@ pub record IsSession (said : Message → Type 0) (target : Target) (put got : Li
   pub speaks : Speaks said target (put ++ talk.unsent) asked
   pub heard : IsHeardSoFar target asked got talk
 
--- The socket of a connection is to its target's address, and the session is that of this socket from its first byte on
-pub record IsWhole (said : Message → Type 0) (stands : Target → (put got : List ℕ) → Type 0) (s : State) : Type 0 where
+-- A connection may be to its target; its socket is to that one's address, and the session is that of this socket from its first byte on
+pub record IsWhole (said : Message → Type 0) (reaches : Target → Type 0) (stands : Target → (put got : List ℕ) → Type 0) (s : State) : Type 0 where
+  pub reached : ∥ reaches s.target ∥₁
   pub put : List ℕ
   pub got : List ℕ
   pub socket : stands s.target put got

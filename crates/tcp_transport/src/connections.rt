@@ -1,13 +1,19 @@
 //! All connections of a Sentinel.
 
-ghost use Rattle.std.specs.Prelude.{◌≡◌, IfOk};
+ghost use Rattle.std.specs.Prelude.{◌≡◌, ◌<◌, IfOk};
+ghost use Rattle.std.specs.List.{AllByRecursion};
+ghost use Rattle.links.specs.declared.target.Target.{Target};
 ghost use Rattle.links.specs.Speaking.{login_bytes};
+ghost use Rattle.links.specs.Targets.{connection_count};
 ghost use Rattle.tcp_transport.specs.Logins.{sent_to};
+ghost use Rattle.tcp_transport.specs.Places.{IsPlaceOf, IsOfRoster, IsAt, AreOf, IsReached, target_at, targets_of};
+ghost use Rattle.tcp_transport.specs.declared.connections.PlannedWire.{PlannedWire};
 
 use crate::exchange::{Outgoing, SentinelEnd, TransportEnd, WatchState, exchange};
-use crate::fault_notes::note_fault;
+use crate::fault_notes::note_ended;
 use crate::logins::Logins;
 use crate::peer_connection::PeerConnection;
+use crate::refusal_notes::RefusalNotes;
 use crate::roster_rows::RowNotes;
 use crate::sockets::Connects;
 use crate::traffic::PIECE;
@@ -42,21 +48,25 @@ struct PlannedWire {
     ping_each: u64,
 }
 
-/// The connections of one Sentinel before its threads run, none of which is open.
+/// The connections of the Sentinel at the place `own` of the roster before its threads run, none of which is open: each
+/// is to the roster's node at its place.
 #[derive(Drop)]
 pub struct PlannedConnections {
     poll: Poll,
     told: Events<Global>,
     plans: Vec<Option<PlannedWire>>,
     roster: Roster,
+    own: u16,
     logins: Logins,
     epoch: u64,
     room: Vec<u8>,
     alloc: Global,
+    ghost reach: { ∥ AreOf roster own (targets_of (λ (plan : PlannedWire). plan.target) plans.items) ∥₁ },
 }
 
 /// The connections of one Sentinel, each at its place (`target_at`); its own place has none. Their sockets come from
-/// `net`. Nothing goes out on them but what the Sentinel may say, and what they hand on it may be told.
+/// `net`, and are to nodes that its connections may be to. Nothing goes out on them but what the Sentinel may say, and
+/// what they hand on it may be told.
 #[derive(Drop)]
 pub struct Connections<J: Which, C: Connects<J>> {
     net: C,
@@ -67,40 +77,62 @@ pub struct Connections<J: Which, C: Connects<J>> {
     logins: Logins,
     near: TransportEnd<J>,
     faults: RecentFaults,
+    refusals: RefusalNotes,
+    keep_ms: u64,
     rows: RowNotes,
     room: Vec<u8>,
     alloc: Global,
 }
 
-/// The connections that the Sentinel of this conf is to have.
-fn plans_of(alloc: Global, conf: &Conf) -> Result<Vec<Option<PlannedWire>>, AllocError> {
+/// The connection at this place that the Sentinel of this conf is to have, where it stands at the place `own`.
+#[tactic(auto, using(crate::proofs::Places::own_has_none))]
+fn plan_at(conf: &Conf, own: u16, place: usize) -> Option<PlannedWire>
+    requires { place < connection_count conf.now.roster }
+    ensures { IsAt conf.now.roster own place (target_at (λ (plan : PlannedWire). plan.target) result) }
+{
+    let target = target_at(conf.roster(), own, place)?;
+    Some(PlannedWire {
+        target,
+        ping_each: pings_of(conf, target.node),
+    })
+}
+
+/// The connections that the Sentinel of this conf is to have, where it stands at the place `own`.
+fn plans_of(alloc: Global, conf: &Conf, own: u16) -> Result<Vec<Option<PlannedWire>>, AllocError>
+    ensures { IfOk result (λ plans. AreOf conf.now.roster own (targets_of (λ (plan : PlannedWire). plan.target) plans.items)) }
+{
     let mut plans = Vec::new(alloc);
     for place in 0..connection_count(conf.roster()) {
-        match target_at(conf.roster(), conf.place(), place) {
-            Some(target) => {
-                let ping_each = pings_of(conf, target.node);
-                plans.push(Some(PlannedWire { target, ping_each }))?;
-            }
-            None => plans.push(None)?,
-        }
+        plans.push(plan_at(conf, own, place))?;
     }
     Ok(plans)
+}
+
+/// This connection, which isn't open.
+fn wire_of<J: Which, C: Connects<J>>(
+    alloc: Global,
+    plan: Option<PlannedWire>,
+) -> Option<PeerConnection<J, C>>
+    requires { IsReached J.reaches (target_at (λ (p : PlannedWire). p.target) plan) }
+    ensures { target_at (λ wire. wire.link.target) result ≡ target_at (λ (p : PlannedWire). p.target) plan }
+{
+    match plan {
+        Some(plan) => Some(PeerConnection::new(alloc, plan.target, plan.ping_each)),
+        None => None,
+    }
 }
 
 /// These connections, none of which is open.
 fn wires_of<J: Which, C: Connects<J>>(
     alloc: Global,
     plans: &[Option<PlannedWire>],
-) -> Result<Vec<Option<PeerConnection<J, C>>>, AllocError> {
+) -> Result<Vec<Option<PeerConnection<J, C>>>, AllocError>
+    requires { AllByRecursion (IsReached J.reaches) (targets_of (λ (plan : PlannedWire). plan.target) plans.now) }
+    ensures { IfOk result (λ wires. targets_of (λ wire. wire.link.target) wires.items ≡ targets_of (λ (plan : PlannedWire). plan.target) plans.now) }
+{
     let mut wires = Vec::new(alloc);
     for plan in plans {
-        match plan {
-            Some(plan) => {
-                let wire = PeerConnection::<J, C>::new(alloc, plan.target, plan.ping_each);
-                wires.push(Some(wire))?;
-            }
-            None => wires.push(None)?,
-        }
+        wires.push(wire_of::<J, C>(alloc, *plan))?;
     }
     Ok(wires)
 }
@@ -119,6 +151,16 @@ fn pings_of(conf: &Conf, node: NodeName) -> u64 {
         Some(settings) => ping_each(settings.after_ms),
         None => ping_each(0),
     }
+}
+
+/// How long it is between two times at which these connections are kept, in milliseconds: `KEEP_MS`, or half of the
+/// shortest time between two PINGs.
+fn keep_ms_of(plans: &[Option<PlannedWire>]) -> u64 {
+    let mut least = KEEP_MS;
+    for plan in plans.iter().flatten() {
+        least = least.min(plan.ping_each / 2);
+    }
+    least
 }
 
 /// The login of a node: that of its master's nodes, or that of all other Sentinels.
@@ -144,16 +186,19 @@ impl PlannedConnections {
         logins: Logins,
     ) -> io::Result<PlannedConnections>
         ensures roster { IfOk result (λ planned. planned.roster ≡ conf.now.roster) }
+        ensures own { IfOk result (λ planned. IsPlaceOf conf.now.roster conf.now.id planned.own) }
         ensures logins { IfOk result (λ planned. planned.logins ≡ logins) }
     {
+        let own = conf.place();
         let Ok(roster) = conf.roster().copy(alloc) else {
             return Err(io::Error::from(ErrorKind::OutOfMemory));
         };
         Ok(PlannedConnections {
             poll: Poll::new(net)?,
             told: Events::with_capacity(alloc, EVENTS)?,
-            plans: plans_of(alloc, conf)?,
+            plans: plans_of(alloc, conf, own)?,
             roster,
+            own,
             logins,
             epoch: conf.kept().current,
             room: vec![in alloc; 0; PIECE]?,
@@ -161,13 +206,15 @@ impl PlannedConnections {
         })
     }
 
-    /// They are those of this Sentinel, by these sockets: they, and the Sentinel's end of them. The error is the
-    /// system's; `OutOfMemory` is a refused allocation.
+    /// They are those of this Sentinel, by these sockets: they, and the Sentinel's end of them. Each is to the roster's
+    /// node at its place. The error is the system's; `OutOfMemory` is a refused allocation.
     pub fn named<J: Which, C: Connects<J> + Drop>(
         self,
         net: C,
     ) -> io::Result<(Connections<J, C>, SentinelEnd<J>)>
+        requires reaches { (target : Target) → IsOfRoster self.roster target → ∥ J.reaches target ∥₁ }
         ensures roster { IfOk result (λ both. both.0.roster ≡ self.roster) }
+        ensures wires { IfOk result (λ both. ∥ AreOf self.roster self.own (targets_of (λ wire. wire.link.target) both.0.wires.items) ∥₁) }
         ensures logins { IfOk result (λ both. both.0.logins ≡ self.logins) }
     {
         let PlannedConnections {
@@ -175,12 +222,14 @@ impl PlannedConnections {
             told,
             plans,
             roster,
+            own: _,
             logins,
             epoch,
             room,
             alloc,
         } = self;
         let (near, far) = exchange::<J>(alloc, poll.registry(), epoch)?;
+        let keep_ms = keep_ms_of(plans.as_slice());
         let wires = Connections {
             net,
             poll,
@@ -190,6 +239,8 @@ impl PlannedConnections {
             logins,
             near,
             faults: RecentFaults::new(alloc),
+            refusals: RefusalNotes::new(alloc),
+            keep_ms,
             rows: RowNotes::new(),
             room,
             alloc,
@@ -201,7 +252,7 @@ impl PlannedConnections {
 impl<J: Which, C: Connects<J>> Connections<J, C> {
     /// Closes connections of no use, opens those that are due, asks what they ask by themselves, and tells the Sentinel
     /// which were lost, at this reading of the clock.
-    fn keep_all<R: Wait>(&mut self, rt: &R, now: u64) {
+    fn keep_all<R: Wait + Log>(&mut self, rt: &R, now: u64) {
         for place in 0..self.wires.len() {
             if let Some(Some(wire)) = self.wires.get_mut(place) {
                 let node = wire.node();
@@ -212,6 +263,7 @@ impl<J: Which, C: Connects<J>> Connections<J, C> {
                     self.near.hand_on(rt, Event::Disconnected { node }, now);
                 }
             }
+            self.note_ended(rt, place, now);
         }
     }
 
@@ -259,8 +311,21 @@ impl<J: Which, C: Connects<J>> Connections<J, C> {
             }
             wire.serve(rt, &mut self.near, self.room.as_mut_slice(), now);
         }
-        self.note_fault(rt, place, now);
+        self.note_ended(rt, place, now);
+        self.note_refused(rt, place, now);
         self.note_row(rt, place, now);
+    }
+
+    /// Notes the errors by which the node of the connection at this place refused what was asked.
+    fn note_refused<R: Log>(&mut self, rt: &R, place: usize, now: u64) {
+        let Some(Some(wire)) = self.wires.get_mut(place) else {
+            return;
+        };
+        let target = wire.target();
+        let node = place_of(&self.roster, target.node).unwrap_or(place);
+        for refused in wire.take_refused() {
+            self.refusals.hear(rt, node, target, &refused, now);
+        }
     }
 
     /// Notes in what the file of the Sentinel differs that the connection at this place is to, where it answered with a
@@ -273,18 +338,18 @@ impl<J: Which, C: Connects<J>> Connections<J, C> {
         }
     }
 
-    /// Notes the fault that closed the connection at this place, where none of its node was noted a moment ago.
-    fn note_fault<R: Log>(&mut self, rt: &R, place: usize, now: u64) {
+    /// Notes why the connection at this place was closed, where none of its node was noted a moment ago.
+    fn note_ended<R: Log>(&mut self, rt: &R, place: usize, now: u64) {
         let Some(Some(wire)) = self.wires.get_mut(place) else {
             return;
         };
-        let Some(fault) = wire.take_fault() else {
+        let Some(ended) = wire.take_ended() else {
             return;
         };
         let target = wire.target();
         let node = place_of(&self.roster, target.node).unwrap_or(place);
         if self.faults.takes_note(node, now) {
-            note_fault(rt, target, fault);
+            note_ended(rt, target, ended);
         }
     }
 
@@ -349,17 +414,18 @@ impl<J: Which, C: Connects<J>> Connections<J, C> {
         }
     }
 
-    /// Has the connection to its node keep a hello that was put out.
-    fn keep_hello(&mut self, outgoing: Outgoing<J>) {
+    /// Has the connection to its node keep a message that may have to go out once more: a hello, and the end of a
+    /// switch.
+    fn keep_message(&mut self, outgoing: Outgoing<J>) {
         let message = outgoing.message();
-        let Body::Publish(_) = &message.body else {
+        let (Body::Publish(_) | Body::HandOver(None)) = &message.body else {
             return;
         };
         let Some(place) = place_of(&self.roster, message.target) else {
             return;
         };
         if let Some(Some(wire)) = self.wires.get_mut(place) {
-            wire.keep_hello(outgoing);
+            wire.keep_message(outgoing);
         }
     }
 
@@ -371,7 +437,7 @@ impl<J: Which, C: Connects<J>> Connections<J, C> {
             };
             self.put_out(&outgoing, now);
             self.hurry_heir(outgoing.message(), now);
-            self.keep_hello(outgoing);
+            self.keep_message(outgoing);
         }
     }
 
@@ -392,7 +458,7 @@ impl<J: Which, C: Connects<J>> Connections<J, C> {
         self.put_out_all(rt, now);
         if pace.until_tick(now) == 0 || self.is_due(now) {
             self.keep_all(rt, now);
-            pace.tick_due = now.saturating_add(KEEP_MS);
+            pace.tick_due = now.saturating_add(self.keep_ms);
         }
         pace.turn(now);
         state.turned.store(now, Ordering::SeqCst);

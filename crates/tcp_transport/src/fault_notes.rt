@@ -6,6 +6,15 @@ use log::{Log, warn};
 use resp2::FrameFault;
 use std::net::Ipv4Addr;
 
+/// Why a connection was closed that could be read until then.
+#[derive(Clone, Copy)]
+pub(crate) enum Ended {
+    /// At this fault of what came.
+    Fault(LinkFault),
+    /// An answer was announced, and didn't come whole in time.
+    Unfinished,
+}
+
 /// What a fault of this node means for the operator.
 fn meaning_of(node: NodeName, fault: LinkFault) -> &'static str {
     match fault {
@@ -31,8 +40,24 @@ fn meaning_of(node: NodeName, fault: LinkFault) -> &'static str {
     }
 }
 
+/// Notes that the connection to a node was closed, since it announced an answer that didn't come whole in time.
+fn note_unfinished<R: Log>(rt: &R, target: Target) {
+    let (ip, port) = (Ipv4Addr::from(target.addr.ip), target.addr.port);
+    warn!(rt; target: "tcp_wires::fault_notes",
+        "what {ip}:{port} says has no end: an answer that it announced isn't whole after some seconds. The connection is closed and opened anew: see whether a proxy is between, or the network cuts what is long"
+    );
+}
+
+/// Notes that the connection to a node was closed, and why.
+pub(crate) fn note_ended<R: Log>(rt: &R, target: Target, ended: Ended) {
+    match ended {
+        Ended::Fault(fault) => note_fault(rt, target, fault),
+        Ended::Unfinished => note_unfinished(rt, target),
+    }
+}
+
 /// Notes that the connection to a node was closed at a fault of what came from it.
-pub(crate) fn note_fault<R: Log>(rt: &R, target: Target, fault: LinkFault) {
+fn note_fault<R: Log>(rt: &R, target: Target, fault: LinkFault) {
     let (ip, port) = (Ipv4Addr::from(target.addr.ip), target.addr.port);
     let meaning = meaning_of(target.node, fault);
     warn!(rt; target: "tcp_wires::fault_notes",

@@ -70,11 +70,16 @@ impl Seldom {
     }
 }
 
-/// Since when no hello of another Sentinel was heard, and when hellos of nobody, those that are too far ahead, such
-/// requests for votes, and hellos of Sentinels whose files differ were noted, these by the place of the Sentinel.
+/// Since when no hello of another Sentinel was heard, of which masters one was, a bit each, and when hellos of nobody,
+/// those that are too far ahead, such requests for votes, and hellos of Sentinels whose files differ were noted, these
+/// by the place of the Sentinel. `rival` is when a Sentinel whose file names no other last heard one that watches its
+/// master too.
 #[derive(Drop)]
 pub(crate) struct HelloNotes {
     others: SilenceTimer,
+    masters: u64,
+    rival: Option<u64>,
+    rival_noted: Seldom,
     stranger: Seldom,
     far: Seldom,
     far_request: Seldom,
@@ -96,6 +101,14 @@ fn note_stranger<R: Log>(rt: &R, hello: Option<Hello>) {
         None =>
             warn!(rt; target: "tcp_wires::hello_notes", "a hello was heard that can't be read: it isn't followed"),
     }
+}
+
+/// Notes that a Sentinel which knows of no other hears one that watches its master too.
+fn note_rival<R: Log>(rt: &R, hello: &Hello) {
+    let (id, name, told) = (Id(hello.id), named(&hello.master), Told(hello.addr));
+    warn!(rt; target: "tcp_wires::hello_notes",
+        "Sentinel {id} at {told} watches master {name} too, and the file here names no other Sentinel: while it is heard this one is in TILT, and begins no failover. Name each in all files by `sentinel known-sentinel {name}`"
+    );
 }
 
 /// Notes a hello of a Sentinel of the group that is too far ahead of an epoch.
@@ -144,6 +157,9 @@ impl HelloNotes {
     pub(crate) fn new(now: u64) -> HelloNotes {
         HelloNotes {
             others: SilenceTimer::new(now),
+            masters: 0,
+            rival: None,
+            rival_noted: Seldom::new(),
             stranger: Seldom::new(),
             far: Seldom::new(),
             far_request: Seldom::new(),
@@ -151,6 +167,11 @@ impl HelloNotes {
             unknown_addr: [Seldom::new(); SENTINELS_MAX],
             unknown_master: [Seldom::new(); SENTINELS_MAX],
         }
+    }
+
+    /// Whether a hello of another Sentinel was heard of so many masters, since the start.
+    pub(crate) fn has_heard(&self, masters: usize) -> bool {
+        self.masters.count_ones() as usize >= masters
     }
 
     /// Notes that hellos are heard again, where it was noted that none was.
@@ -164,6 +185,26 @@ impl HelloNotes {
     fn hear_stranger<R: Log>(&mut self, rt: &R, now: u64, hello: Option<Hello>) {
         if self.stranger.takes_note(now, STRANGERS_MS) {
             note_stranger(rt, hello);
+        }
+    }
+
+    /// Keeps when a Sentinel whose file names no other heard one that watches its master too, and notes it.
+    fn hear_rival<R: Log>(&mut self, rt: &R, by: Hearer<'_>, hello: &Hello) {
+        if by.roster.sentinels().len() > 1 || by.roster.master_named(&hello.master).is_none() {
+            return;
+        }
+        self.rival = Some(by.now);
+        if self.rival_noted.takes_note(by.now, DIFFERENT_MS) {
+            note_rival(rt, hello);
+        }
+    }
+
+    /// Whether a Sentinel whose file names no other heard another one of its master a moment ago: each would elect
+    /// itself.
+    pub(crate) fn has_rival(&self, now: u64) -> bool {
+        match self.rival {
+            Some(heard) => now.saturating_sub(heard) < NO_HELLOS_MS,
+            None => false,
         }
     }
 
@@ -202,6 +243,9 @@ impl HelloNotes {
                 return;
             }
         }
+        if let Some(master) = by.roster.master_named(&hello.master) {
+            self.masters |= 1u64.wrapping_shl(u32::from(master));
+        }
         self.hear_other(rt, by.now);
         self.hear_difference(rt, by, place, hello);
     }
@@ -215,7 +259,10 @@ impl HelloNotes {
         match sentinels.iter().position(|it| it.id == hello.id) {
             Some(place) if place == by.own as usize => {}
             Some(place) => self.hear_member(rt, by, place, &hello),
-            None => self.hear_stranger(rt, by.now, Some(hello)),
+            None => {
+                self.hear_rival(rt, by, &hello);
+                self.hear_stranger(rt, by.now, Some(hello));
+            }
         }
     }
 

@@ -6,6 +6,7 @@
 //! Sockets are a type parameter, `Connects`, which `NetSockets`, those of the system, meet.
 #![tactic(auto)]
 
+mod asides;
 mod connections;
 mod exchange;
 mod far_hellos;
@@ -13,6 +14,7 @@ mod fault_notes;
 mod hello_notes;
 mod logins;
 mod peer_connection;
+mod refusal_notes;
 mod replica_notes;
 mod roster_rows;
 mod said_link;

@@ -2,45 +2,46 @@
 
 ghost use Rattle.std.specs.Prelude.{◌≡◌, ◌↔◌, IsTrue, false};
 ghost use Rattle.std.specs.List.{AllByRecursion};
+ghost use Rattle.links.specs.Sessions.Links.{events_in};
 ghost use Rattle.tcp_transport.specs.Hearing.{IsTakeable};
 
+use crate::asides::{Asides, Refused};
 use crate::exchange::{Outgoing, TransportEnd};
+use crate::fault_notes::Ended;
 use crate::roster_rows::{RowHeard, RowLook};
 use crate::said_link::SaidLink;
 use crate::sockets::Connects;
 use crate::traffic::Unheard;
-use ballot_law::{Body, Event, NodeName, Roster};
+use ballot_law::{Body, NodeName, Roster};
 use links::{
-    ACKS_MS, FLOW_MS, HELLO_AGAIN_MS, LOOK_MS, LinkFault, Login, RateLimit, Stage, Target,
-    is_refusal, wants_login,
+    ACKS_MS, FLOW_MS, HELLO_AGAIN_MS, Heard, LOOK_MS, Login, MUTE_MS, RateLimit, Refusal,
+    SWITCH_MS, Stage, Stale, Target,
 };
-use log::{Log, warn};
 use mio::{Registry, Token};
 use sentinel_runtime::Which;
 use std::alloc::Global;
 use std::io::ErrorKind;
-use std::net::Ipv4Addr;
-use std::str::from_utf8;
 use std::sync::Wait;
 
 /// How many reads a connection makes before the next one has its turn.
 const READS_MAX: u32 = 16;
 
-/// A connection to a node, by the sockets that `C` makes. `goes_on` is whether it may have more to
-/// read, `is_ending` whether the system told of its end, `is_refused` whether the node refused who asks when it was
-/// heard last, `look_at` when it is to be asked what came of an order, `fault` the fault of what came that closed it
-/// last, and `shut_until` until when it stays closed, since too much came on it, `is_lost` whether it was told to be
-/// lost since it was open last, `is_barred` whether it was given up for want of a password, which wasn't told yet,
-/// `rows` what it asks another Sentinel for its rows, `acks_until` until when its node is asked to acknowledge its
-/// master's stream, `hello` the last hello that went out on it, `hello_at` when that goes out once more.
+/// A connection to a node, by the sockets that `C` makes. `goes_on` is whether it may have more to read, `is_ending`
+/// whether the system told of its end, `look_at` when it is to be asked what came of an order, `ended` why it was
+/// closed last though it could be read, `asides` what its node told beside events, and `shut_until` until when it stays
+/// closed, since too much came on it, `is_lost` whether it was told to be lost since it was open last, `is_barred`
+/// whether it was given up for want of a password, which wasn't told yet, `rows` what it asks another Sentinel for its
+/// rows, `acks_until` until when its node is asked to acknowledge its master's stream, `hello` the last hello that went
+/// out on it, `hello_at` when that goes out once more, `mute_until` until when no hello goes out on it, and `abort` the
+/// end of a switch, which goes out once it is open anew.
 #[derive(Drop)]
 pub(crate) struct PeerConnection<J: Which, C: Connects<J>> {
     link: SaidLink<J, C>,
     goes_on: bool,
     is_ending: bool,
-    is_refused: bool,
     look_at: Option<u64>,
-    fault: Option<LinkFault>,
+    ended: Option<Ended>,
+    asides: Asides,
     flow: RateLimit,
     shut_until: u64,
     is_lost: bool,
@@ -49,43 +50,55 @@ pub(crate) struct PeerConnection<J: Which, C: Connects<J>> {
     acks_until: u64,
     hello: Option<Outgoing<J>>,
     hello_at: Option<u64>,
+    mute_until: u64,
+    abort: Option<Outgoing<J>>,
     alloc: Global,
 }
 
-/// Hands these events on to the Sentinel, in their order, which it may take.
-fn hand_on_all<J: Which, R: Wait>(rt: &R, near: &mut TransportEnd<J>, events: Vec<Event>, now: u64)
-    requires { AllByRecursion (IsTakeable J.told) events.items }
+/// Hands the events of what was heard on to the Sentinel, in their order, which it may take, and keeps the rest.
+fn hand_on_all<J: Which, R: Wait>(
+    rt: &R,
+    near: &mut TransportEnd<J>,
+    asides: &mut Asides,
+    heard: Vec<Heard>,
+    now: u64,
+)
+    requires { AllByRecursion (IsTakeable J.told) (events_in heard.items) }
 {
-    for event in events {
-        near.hand_on(rt, event, now);
-    }
-}
-
-/// Whether a node told that it refuses to hand over.
-fn is_stay(event: &Event) -> bool {
-    matches!(event, Event::Refused { .. })
-}
-
-/// The first error in what came, where it is text.
-fn error_in(piece: &[u8]) -> &str {
-    for line in from_utf8(piece).unwrap_or("").split("\r\n") {
-        if line.starts_with("-") {
-            return line;
+    for told in heard {
+        match told {
+            Heard::Told(event) => near.hand_on(rt, event, now),
+            Heard::Refused(refusal) => {
+                let Refusal {
+                    question,
+                    text,
+                    event,
+                } = refusal;
+                if let Some(event) = event {
+                    near.hand_on(rt, event, now);
+                }
+                asides.refuse(question, text);
+            }
+            Heard::Row(row) => asides.tell_row(row),
+            Heard::Nothing => {}
         }
     }
-    "an error"
 }
 
 impl<J: Which, C: Connects<J>> PeerConnection<J, C> {
-    /// A connection that isn't open, and is to be opened at once, with so many milliseconds between two PINGs.
-    pub(crate) fn new(alloc: Global, target: Target, ping_each: u64) -> PeerConnection<J, C> {
+    /// A connection to a node that it may be to, which isn't open, and is to be opened at once, with so many
+    /// milliseconds between two PINGs.
+    pub(crate) fn new(alloc: Global, target: Target, ping_each: u64) -> PeerConnection<J, C>
+        requires { ∥ J.reaches target ∥₁ }
+        ensures { result.link.target ≡ target }
+    {
         PeerConnection {
             link: SaidLink::new(alloc, target, ping_each),
             goes_on: false,
             is_ending: false,
-            is_refused: false,
             look_at: None,
-            fault: None,
+            ended: None,
+            asides: Asides::new(alloc),
             flow: RateLimit::new(),
             shut_until: 0,
             is_lost: false,
@@ -94,6 +107,8 @@ impl<J: Which, C: Connects<J>> PeerConnection<J, C> {
             acks_until: 0,
             hello: None,
             hello_at: None,
+            mute_until: 0,
+            abort: None,
             alloc,
         }
     }
@@ -136,9 +151,14 @@ impl<J: Which, C: Connects<J>> PeerConnection<J, C> {
         true
     }
 
-    /// The fault of what came that closed it since this was asked last.
-    pub(crate) fn take_fault(&mut self) -> Option<LinkFault> {
-        self.fault.take()
+    /// Why it was closed since this was asked last, though it could be read.
+    pub(crate) fn take_ended(&mut self) -> Option<Ended> {
+        self.ended.take()
+    }
+
+    /// The errors by which its node refused what was asked, since this was asked last.
+    pub(crate) fn take_refused(&mut self) -> Vec<Refused> {
+        self.asides.take_refused()
     }
 
     /// The node that it is to, and at which address.
@@ -157,7 +177,9 @@ impl<J: Which, C: Connects<J>> PeerConnection<J, C> {
     }
 
     /// Where the connection is closed, nothing more is to be read, and no row is awaited.
-    fn settle(&mut self) {
+    fn settle(&mut self)
+        ensures { self.new.link.target ≡ self.old.link.target }
+    {
         if self.link.schedule().stage == Stage::Closed {
             self.goes_on = false;
             self.rows.end();
@@ -170,6 +192,31 @@ impl<J: Which, C: Connects<J>> PeerConnection<J, C> {
         self.link.open(net, registry, token, login, now);
     }
 
+    /// Closes it where it is given up, or where a hello holds the other answers up: its node makes writes wait, and
+    /// forgets with the connection what it held back. So it is opened again at once, and no hello goes out on it for a
+    /// while.
+    fn give_up(&mut self, now: u64) {
+        if let Some(stale) = self.link.as_link().stale(now) {
+            if stale == Stale::Unfinished {
+                self.ended = Some(Ended::Unfinished);
+            }
+            self.link.close(now);
+            self.settle();
+        } else if self.link.as_link().is_held_up(now) {
+            self.mute_until = now.saturating_add(MUTE_MS);
+            self.renew(now);
+        }
+    }
+
+    /// Closes it, to be opened again at once.
+    fn renew(&mut self, now: u64)
+        ensures { self.new.link.target ≡ self.old.link.target }
+    {
+        self.link.close(now);
+        self.link.forgive();
+        self.settle();
+    }
+
     /// Closes it where it is given up, opens it where that is due, and asks what it asks by itself.
     pub(crate) fn keep(
         &mut self,
@@ -179,10 +226,7 @@ impl<J: Which, C: Connects<J>> PeerConnection<J, C> {
         login: Login<'_>,
         now: u64,
     ) {
-        if self.link.as_link().stale(now).is_some() {
-            self.link.close(now);
-            self.settle();
-        }
+        self.give_up(now);
         if self.is_due(now) {
             self.open(net, registry, token, login, now);
         }
@@ -191,6 +235,7 @@ impl<J: Which, C: Connects<J>> PeerConnection<J, C> {
 
     /// Asks what it asks by itself, and sends what it can. A fault has closed it.
     fn ask_due(&mut self, now: u64) {
+        self.end_switch(now);
         let _ = self.link.ask_due(now);
         if let Some(at) = self.look_at {
             if at <= now {
@@ -202,9 +247,24 @@ impl<J: Which, C: Connects<J>> PeerConnection<J, C> {
         self.send_out(now);
     }
 
-    /// Keeps a hello that went out on it.
-    pub(crate) fn keep_hello(&mut self, hello: Outgoing<J>) {
-        self.hello = Some(hello);
+    /// Keeps a message of its node: a hello that may go out once more, and the end of a switch until it is open anew.
+    pub(crate) fn keep_message(&mut self, outgoing: Outgoing<J>) {
+        match &outgoing.message().body {
+            Body::HandOver(_) => self.abort = Some(outgoing),
+            _ => self.hello = Some(outgoing),
+        }
+    }
+
+    /// Puts out the end of a switch that was kept, once it is open. A fault has closed it.
+    fn end_switch(&mut self, now: u64) {
+        if !self.link.schedule().is_open() {
+            return;
+        }
+        if let Some(abort) = self.abort.take() {
+            if self.takes(abort.message().target) {
+                let _ = self.link.ask(&abort, now);
+            }
+        }
     }
 
     /// Puts out the last hello once more, where that is due. A fault has closed it.
@@ -212,6 +272,9 @@ impl<J: Which, C: Connects<J>> PeerConnection<J, C> {
         match self.hello_at {
             Some(at) if at <= now => self.hello_at = None,
             _ => return,
+        }
+        if now < self.mute_until {
+            return;
         }
         if let Some(hello) = self.hello.take() {
             if self.takes(hello.message().target) {
@@ -232,7 +295,7 @@ impl<J: Which, C: Connects<J>> PeerConnection<J, C> {
         };
         if self.rows.is_due(now) {
             if let Ok(true) = self.link.ask_row(master.name.as_slice(), now) {
-                self.rows.begin(self.alloc, number, now);
+                self.rows.begin(number, now);
             }
             self.send_out(now);
         }
@@ -268,15 +331,40 @@ impl<J: Which, C: Connects<J>> PeerConnection<J, C> {
         }
     }
 
+    /// What a message changes before it is put out: whether it is put out now. No hello goes to a node from the order
+    /// to hand over on until the switch ends, since a node that hands over makes writes wait, and whatever comes behind
+    /// them. The end of a switch goes out once the connection is open anew, so that it waits behind nothing.
+    fn prepare(&mut self, body: &Body, now: u64) -> bool
+        ensures { self.new.link.target ≡ self.old.link.target }
+    {
+        match body {
+            Body::Publish(_) => return now >= self.mute_until,
+            Body::HandOver(Some(_)) => self.mute_until = now.saturating_add(SWITCH_MS),
+            Body::HandOver(None) => {
+                self.mute_until = 0;
+                self.renew(now);
+                return false;
+            }
+            Body::ReplicaOf(_) => self.mute_until = 0,
+            _ => {}
+        }
+        true
+    }
+
     /// Puts out a message where it is open, and sends what it can; else the message is lost. What came of an order to
-    /// follow a master, or none, is asked soon, and the last hello goes out once more. A fault has closed it.
+    /// follow a master, or none, is asked with it and once more soon, and the last hello goes out again. A fault has
+    /// closed it.
     pub(crate) fn ask(&mut self, outgoing: &Outgoing<J>, now: u64)
         requires { (self.old.link.target.node ≡ outgoing.now.target) × (self.old.link.target.listens ≡ false) }
     {
         let message = outgoing.message();
+        if !self.prepare(&message.body, now) {
+            return;
+        }
         self.ask_ack(&message.body, now);
         let _ = self.link.ask(outgoing, now);
         if let Body::ReplicaOf(_) = message.body {
+            let _ = self.link.look(now);
             self.look_at = Some(now.saturating_add(LOOK_MS));
             self.hello_at = Some(now.saturating_add(HELLO_AGAIN_MS));
         }
@@ -291,70 +379,38 @@ impl<J: Which, C: Connects<J>> PeerConnection<J, C> {
         self.settle();
     }
 
-    /// With which words of the file a Sentinel logs in to its node.
-    fn login_words(&self) -> (&'static str, &'static str) {
-        match self.link.target().node {
-            NodeName::SentinelAt(_) => ("sentinel sentinel-pass", "sentinel sentinel-user"),
-            _ => ("sentinel auth-pass", "sentinel auth-user"),
+    /// Takes in what another Sentinel answered that was asked for its row of a master, if it did.
+    fn hear_row(&mut self) {
+        if let Some(row) = self.asides.take_row() {
+            self.rows.hear(row);
         }
-    }
-
-    /// Notes that the node refuses who asks, where it didn't before, by the piece that came.
-    fn note_refusal<R: Log>(&mut self, rt: &R, piece: &[u8]) {
-        let is_refused = is_refusal(piece);
-        if is_refused && !self.is_refused {
-            let addr = self.link.target().addr;
-            let (ip, port) = (Ipv4Addr::from(addr.ip), addr.port);
-            let (pass, user) = self.login_words();
-            warn!(rt; target: "tcp_wires::wire",
-                "{ip}:{port} refuses this Sentinel: see its password and user (`{pass}`, `{user}`), and what that user may do"
-            );
+        if let Some(error) = self.asides.row_refused() {
+            self.rows.refuse(error);
         }
-        self.is_refused = is_refused;
-    }
-
-    /// Looks at a piece that came: at the answer to a question for a row where one is awaited, else at whether it
-    /// refuses who asks.
-    fn note_piece<R: Log>(&mut self, rt: &R, piece: &[u8]) {
-        if !self.rows.hear(piece) {
-            self.note_refusal(rt, piece);
-        }
-    }
-
-    /// Notes that a master refuses to hand over, and why, by the piece that came.
-    fn note_stay<R: Log>(&self, rt: &R, piece: &[u8]) {
-        let addr = self.link.target().addr;
-        let (ip, port) = (Ipv4Addr::from(addr.ip), addr.port);
-        let why = error_in(piece);
-        warn!(rt; target: "tcp_wires::wire", "{ip}:{port} refuses to hand over: {why}");
     }
 
     /// Reads one piece and hands on its events: its length. `InvalidData`: the node exceeded the message rate, and the
     /// link is closed for one second. `PermissionDenied`: the node wants a password first.
     #[tactic(auto, using(crate::proofs::Hearing::all_takeable))]
-    fn read_once<R: Wait + Log>(
+    fn read_once<R: Wait>(
         &mut self,
         rt: &R,
         near: &mut TransportEnd<J>,
         room: &mut [u8],
         now: u64,
     ) -> Result<usize, ErrorKind> {
-        let mut events = Vec::new(self.alloc);
-        let heard = self.link.hear(room, now, &mut events);
-        let is_flooded = self.flow.add(now, events.len() as u64);
-        let is_staying = events.iter().any(|event| is_stay(event));
-        hand_on_all(rt, near, events, now);
+        let mut heard = Vec::new(self.alloc);
+        let read = self.link.hear(room, now, &mut heard);
+        let is_flooded = self.flow.add(now, heard.len() as u64);
+        hand_on_all(rt, near, &mut self.asides, heard, now);
+        self.hear_row();
         if is_flooded {
             self.shut_until = now.saturating_add(FLOW_MS);
             return Err(ErrorKind::InvalidData);
         }
-        match heard {
+        match read {
             Ok(count) => {
-                if is_staying {
-                    self.note_stay(rt, &room[..count]);
-                }
-                self.note_piece(rt, &room[..count]);
-                if wants_login(&room[..count]) {
+                if self.asides.take_wish() {
                     self.is_barred = true;
                     return Err(ErrorKind::PermissionDenied);
                 }
@@ -362,7 +418,7 @@ impl<J: Which, C: Connects<J>> PeerConnection<J, C> {
             }
             Err(Unheard::Stream(kind)) => Err(kind),
             Err(Unheard::Fault(fault)) => {
-                self.fault = Some(fault);
+                self.ended = Some(Ended::Fault(fault));
                 Err(ErrorKind::InvalidData)
             }
         }
@@ -371,7 +427,7 @@ impl<J: Which, C: Connects<J>> PeerConnection<J, C> {
     /// Reads what came, and hands on what that tells: whether the socket is whole. After many reads the next connection
     /// has its turn. A read that gave less than it asked for took all that was there: what comes later is told by the
     /// system, an end that it told of before isn't.
-    fn read_in<R: Wait + Log>(
+    fn read_in<R: Wait>(
         &mut self,
         rt: &R,
         near: &mut TransportEnd<J>,
@@ -406,7 +462,7 @@ impl<J: Which, C: Connects<J>> PeerConnection<J, C> {
 
     /// Goes on once the system has told of it: reads what came, hands on what that tells, and sends what is unsent and
     /// due. Where the node ends a connection that had lasted, it is to be opened again at once.
-    pub(crate) fn serve<R: Wait + Log>(
+    pub(crate) fn serve<R: Wait>(
         &mut self,
         rt: &R,
         near: &mut TransportEnd<J>,

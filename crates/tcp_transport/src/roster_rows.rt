@@ -1,32 +1,25 @@
 //! What another Sentinel's row of a master says of its file, beside what the own one says.
 //!
 //! Hellos don't tell how many replicas and Sentinels a file names, so another Sentinel is asked for its row from time
-//! to time. The answer is read here alone and the Sentinel isn't told of it: it changes nothing but notes.
+//! to time. The Sentinel isn't told of the answer: it changes nothing but notes.
 
 use crate::hello_notes::{Id, Seldom, Told, named};
 use ballot_law::{Member, Name, NodeName, Roster, SENTINELS_MAX};
-use links::{DIFFERENT_MS, ROW_EACH_MS, Target};
+use links::{DIFFERENT_MS, ROW_EACH_MS, Row, Target};
 use log::{Log, warn};
-use resp2::{Frames, Value, word_of};
-use std::alloc::Global;
 use std::fmt;
-use tokens::number_of;
 
-/// How many replicas a Sentinel knows of a master, how many other Sentinels, and its quorum.
-#[derive(Clone, Copy, PartialEq, Eq)]
-pub(crate) struct RowNumbers {
-    replicas: u64,
-    others: u64,
-    quorum: u64,
-}
+/// The numbers of a row, in words.
+#[derive(Clone, Copy)]
+struct Numbers(Row);
 
-impl fmt::Display for RowNumbers {
+impl fmt::Display for Numbers {
     fn fmt<W: fmt::Write>(&self, f: &mut fmt::Formatter<W>) -> fmt::Result {
-        let RowNumbers {
+        let Row {
             replicas,
             others,
             quorum,
-        } = self;
+        } = self.0;
         write!(
             f,
             "{replicas} replicas, {others} other Sentinels and the quorum {quorum}"
@@ -38,51 +31,18 @@ impl fmt::Display for RowNumbers {
 #[derive(Clone, Copy)]
 pub(crate) enum RowHeard {
     /// These numbers.
-    Numbers(RowNumbers),
+    Numbers(Row),
     /// The Sentinel watches no such master.
     NoMaster,
 }
 
-/// The number in the field with this name, of a row of names and values.
-fn number_in(row: &[Value], name: &[u8]) -> Option<u64> {
-    for field in row.chunks(2) {
-        if let [label, value] = field {
-            if word_of(label) == name {
-                return number_of(word_of(value), 0, u64::MAX);
-            }
-        }
-    }
-    None
-}
-
-/// What the numbers of a row are; none where one of them isn't there.
-fn numbers_in(row: &[Value]) -> Option<RowNumbers> {
-    Some(RowNumbers {
-        replicas: number_in(row, b"num-slaves")?,
-        others: number_in(row, b"num-other-sentinels")?,
-        quorum: number_in(row, b"quorum")?,
-    })
-}
-
-/// What an answer says; nothing where it is another error, or no row of a master.
-fn heard_in(answer: &Value) -> Option<RowHeard> {
-    match answer {
-        Value::Items(row) => numbers_in(row).map(RowHeard::Numbers),
-        Value::Fault(text) if text.as_slice().starts_with(b"ERR No such master") => {
-            Some(RowHeard::NoMaster)
-        }
-        _ => None,
-    }
-}
-
-/// What a connection asks another Sentinel for its rows: from when on it may ask, for which master, by its number, and
-/// what came of the answer so far, where one is awaited. `heard` is what the last answer said, until that is taken; who
-/// answers with an error of another kind isn't asked again before the connection is opened anew.
-#[derive(Drop)]
+/// What a connection asks another Sentinel for its rows: from when on it may ask, and for which master, by its number.
+/// `heard` is what the last answer said, until that is taken; who answers with an error of another kind isn't asked
+/// again before the connection is opened anew.
+#[derive(Clone, Copy)]
 pub(crate) struct RowLook {
     due: u64,
     master: u16,
-    awaited: Option<Frames>,
     heard: Option<RowHeard>,
     is_refused: bool,
 }
@@ -93,7 +53,6 @@ impl RowLook {
         RowLook {
             due: 0,
             master: 0,
-            awaited: None,
             heard: None,
             is_refused: false,
         }
@@ -101,7 +60,7 @@ impl RowLook {
 
     /// Whether it may ask now.
     pub(crate) fn is_due(&self, now: u64) -> bool {
-        !self.is_refused && self.awaited.is_none() && self.due <= now
+        !self.is_refused && self.due <= now
     }
 
     /// For which master it is to ask, or did, of so many.
@@ -112,38 +71,29 @@ impl RowLook {
         0
     }
 
-    /// It asked for this master: the next value that comes is the answer.
-    pub(crate) fn begin(&mut self, alloc: Global, master: u16, now: u64) {
+    /// It asked for this master.
+    pub(crate) fn begin(&mut self, master: u16, now: u64) {
         self.due = now.saturating_add(ROW_EACH_MS);
         self.master = master;
-        self.awaited = Some(Frames::new(alloc));
     }
 
     /// The connection is closed: nothing is awaited on it.
     pub(crate) fn end(&mut self) {
-        self.awaited = None;
         self.is_refused = false;
     }
 
-    /// Takes the next piece that came: whether it is awaited here.
-    pub(crate) fn hear(&mut self, piece: &[u8]) -> bool {
-        let Some(frames) = &mut self.awaited else {
-            return false;
-        };
-        let answer = match frames.feed(piece) {
-            Ok(()) => frames.next(),
-            Err(fault) => Err(fault),
-        };
-        match answer {
-            Ok(None) => return true,
-            Ok(Some(value)) => {
-                self.heard = heard_in(&value);
-                self.is_refused = self.heard.is_none();
-            }
-            Err(_) => {}
+    /// The answer is this row.
+    pub(crate) fn hear(&mut self, row: Row) {
+        self.heard = Some(RowHeard::Numbers(row));
+    }
+
+    /// The answer is this error.
+    pub(crate) fn refuse(&mut self, error: &[u8]) {
+        if error.starts_with(b"ERR No such master") {
+            self.heard = Some(RowHeard::NoMaster);
+        } else {
+            self.is_refused = true;
         }
-        self.awaited = None;
-        true
     }
 
     /// What the last answer said, and of which master, once. The next question is for the next master.
@@ -162,9 +112,9 @@ pub(crate) struct RowNotes {
 }
 
 /// What the own file says of a master.
-fn own_numbers(roster: &Roster, master: u16) -> Option<RowNumbers> {
+fn own_numbers(roster: &Roster, master: u16) -> Option<Row> {
     let watched = roster.masters().get(master as usize)?;
-    Some(RowNumbers {
+    Some(Row {
         replicas: (watched.nodes().len() as u64).saturating_sub(1),
         others: (roster.sentinels().len() as u64).saturating_sub(1),
         quorum: u64::from(watched.quorum),
@@ -178,7 +128,7 @@ struct RowDifference<'a> {
     member: Member,
     name: &'a Name,
     heard: RowHeard,
-    own: RowNumbers,
+    own: Row,
 }
 
 impl fmt::Display for RowDifference<'_> {
@@ -189,11 +139,11 @@ impl fmt::Display for RowDifference<'_> {
             "the files of this group differ: Sentinel {id} at {addr} "
         )?;
         match self.heard {
-            RowHeard::Numbers(numbers) => {
+            RowHeard::Numbers(row) => {
+                let (there, here) = (Numbers(row), Numbers(self.own));
                 write!(
                     f,
-                    "has {numbers} for master {name}, and the file here {}. ",
-                    self.own
+                    "has {there} for master {name}, and the file here {here}. "
                 )?;
                 write!(
                     f,
@@ -220,7 +170,7 @@ fn difference(
     let watched = roster.masters().get(master as usize)?;
     let own = own_numbers(roster, master)?;
     match heard {
-        RowHeard::Numbers(numbers) if numbers == own => None,
+        RowHeard::Numbers(row) if row == own => None,
         heard => Some(RowDifference {
             member,
             name: &watched.name,

@@ -5,25 +5,26 @@ ghost use Rattle.std.specs.Prelude.{◌≡◌, ◌≢◌, ◌≤◌, ◌⊎◌, 
 ghost use Rattle.std.specs.List.{AllByRecursion};
 ghost use Rattle.ballot_law.specs.declared.events.Event.{Event};
 ghost use Rattle.links.specs.NodeLinks.{opening_at, closed_at, asked_at};
+ghost use Rattle.links.specs.Sessions.Links.{events_in};
 ghost use Rattle.links.specs.declared.schedule.Stage.TheVariants.{Closed, Open};
 ghost use Rattle.tcp_transport.specs.Told.{IsToldOn};
 
 use crate::exchange::Outgoing;
 use crate::sockets::{Connects, connected, is_connected};
 use crate::traffic::{Unheard, hear, send};
-use ballot_law::{Event, NodeName};
-use links::{LinkFault, Login, NodeLink, Schedule, Target};
+use ballot_law::NodeName;
+use links::{Heard, LinkFault, Login, NodeLink, Schedule, Target};
 use mio::{Registry, Token};
 use sentinel_runtime::Which;
 use std::alloc::Global;
 use std::io::ErrorKind;
 use std::marker::{Model, PhantomData};
 
-/// A connection to a node, with its socket where it is open or being opened. That is to the node's address. What was
-/// put out on it since it was opened, and what is unsent, is what comes before all messages, messages that the Sentinel
-/// may say to that node, questions for a row, and what it asks by itself, which is a PING alone where that node is a
-/// Sentinel; and what is awaited and held is what is left of all that came on it. Contracts see the connection without
-/// its socket.
+/// A connection to a node that it may be to, with its socket where it is open or being opened. That is to the node's
+/// address. What was put out on it since it was opened, and what is unsent, is what comes before all messages, messages
+/// that the Sentinel may say to that node, questions for a row, and what it asks by itself, which is a PING alone where
+/// that node is a Sentinel; and what is awaited and held is what is left of all that came on it. Contracts see the
+/// connection without its socket.
 #[derive(Drop)]
 pub(crate) struct SaidLink<J: Which, C: Connects<J>> {
     link: NodeLink,
@@ -40,13 +41,15 @@ impl<J: Which, C: Connects<J>> Model for SaidLink<J, C> {
 
     ghost view = { λ said. said.link };
 
-    ghost invariant = { λ said. IsWhole J.said (stands_of C.Stream.stands said.socket) said.link };
+    ghost invariant = { λ said. IsWhole J.said J.reaches (stands_of C.Stream.stands said.socket) said.link };
 }
 
 impl<J: Which, C: Connects<J>> SaidLink<J, C> {
-    /// A connection that isn't open, and is to be opened at once, with so many milliseconds between two PINGs.
+    /// A connection to a node that it may be to, which isn't open, and is to be opened at once, with so many
+    /// milliseconds between two PINGs.
     #[tactic(auto, using(crate::proofs::Sessions::whole_fresh))]
     pub(crate) fn new(alloc: Global, target: Target, ping_each: u64) -> SaidLink<J, C>
+        requires { ∥ J.reaches target ∥₁ }
         ensures target { result.target ≡ target }
         ensures stage { result.schedule.stage ≡ Closed }
     {
@@ -87,7 +90,7 @@ impl<J: Which, C: Connects<J>> SaidLink<J, C> {
     }
 
     /// It is closed from now on, and its socket with it.
-    #[tactic(auto, using(crate::proofs::Sessions::whole_fresh))]
+    #[tactic(auto, using(crate::proofs::Sessions::whole_closed))]
     pub(crate) fn close(&mut self, now: u64)
         ensures { self.new ≡ closed_at now self.old }
     {
@@ -97,7 +100,7 @@ impl<J: Which, C: Connects<J>> SaidLink<J, C> {
 
     /// It is being opened from now on, by a socket of its own, of which the system tells under this token, and what
     /// comes before all messages is unsent. A fault, or a socket that can't be had, leaves it closed.
-    #[tactic(auto, using(crate::proofs::Sessions::whole_fresh))]
+    #[tactic(auto, using(crate::proofs::Sessions::whole_closed))]
     pub(crate) fn open(
         &mut self,
         net: &C,
@@ -147,7 +150,7 @@ impl<J: Which, C: Connects<J>> SaidLink<J, C> {
     }
 
     /// Puts out a message to its node that may be said, where it is open; else the message is lost. A fault closes it.
-    #[tactic(auto, using(crate::proofs::Sessions::whole_message, crate::proofs::Sessions::whole_fresh))]
+    #[tactic(auto, using(crate::proofs::Sessions::whole_message, crate::proofs::Sessions::whole_closed))]
     pub(crate) fn ask(&mut self, outgoing: &Outgoing<J>, now: u64) -> Result<(), LinkFault>
         requires target { self.old.target.node ≡ outgoing.now.target }
         requires speaks { self.old.target.listens ≡ false }
@@ -166,7 +169,7 @@ impl<J: Which, C: Connects<J>> SaidLink<J, C> {
     }
 
     /// Sends a PING, where it is open and takes messages. A fault closes it.
-    #[tactic(auto, using(crate::proofs::Sessions::whole_own, crate::proofs::Sessions::whole_fresh))]
+    #[tactic(auto, using(crate::proofs::Sessions::whole_own, crate::proofs::Sessions::whole_closed))]
     pub(crate) fn ping(&mut self, now: u64) -> Result<(), LinkFault>
         ensures target { self.new.target ≡ self.old.target }
     {
@@ -183,7 +186,7 @@ impl<J: Which, C: Connects<J>> SaidLink<J, C> {
     }
 
     /// Asks for INFO, where it is open, takes messages, and is to a data node. A fault closes it.
-    #[tactic(auto, using(crate::proofs::Sessions::whole_own, crate::proofs::Sessions::whole_fresh))]
+    #[tactic(auto, using(crate::proofs::Sessions::whole_own, crate::proofs::Sessions::whole_closed))]
     pub(crate) fn look(&mut self, now: u64) -> Result<(), LinkFault>
         ensures target { self.new.target ≡ self.old.target }
     {
@@ -200,7 +203,7 @@ impl<J: Which, C: Connects<J>> SaidLink<J, C> {
     }
 
     /// Asks for the row of a master, by its name, where no answer is awaited: whether it asked. A fault closes it.
-    #[tactic(auto, using(crate::proofs::Sessions::whole_fresh))]
+    #[tactic(auto, using(crate::proofs::Sessions::whole_closed))]
     pub(crate) fn ask_row(&mut self, name: &[u8], now: u64) -> Result<bool, LinkFault>
         ensures target { self.new.target ≡ self.old.target }
     {
@@ -218,7 +221,7 @@ impl<J: Which, C: Connects<J>> SaidLink<J, C> {
 
     /// Asks a replica to acknowledge at once what it has of its master's stream, where it is open, takes messages, and
     /// is to a data node. A fault closes it.
-    #[tactic(auto, using(crate::proofs::Sessions::whole_ack, crate::proofs::Sessions::whole_fresh))]
+    #[tactic(auto, using(crate::proofs::Sessions::whole_ack, crate::proofs::Sessions::whole_closed))]
     pub(crate) fn ask_ack(&mut self, now: u64) -> Result<(), LinkFault>
         ensures target { self.new.target ≡ self.old.target }
     {
@@ -239,7 +242,7 @@ impl<J: Which, C: Connects<J>> SaidLink<J, C> {
     }
 
     /// Sends the PING and the INFO that are due, and nothing else, where it takes messages. A fault closes it.
-    #[tactic(auto, using(crate::proofs::Sessions::whole_own, crate::proofs::Sessions::whole_fresh))]
+    #[tactic(auto, using(crate::proofs::Sessions::whole_own, crate::proofs::Sessions::whole_closed))]
     pub(crate) fn ask_due(&mut self, now: u64) -> Result<(), LinkFault>
         ensures target { self.new.target ≡ self.old.target }
     {
@@ -275,16 +278,17 @@ impl<J: Which, C: Connects<J>> SaidLink<J, C> {
         &mut self,
         room: &mut [u8],
         now: u64,
-        events: &mut Vec<Event>,
+        heard: &mut Vec<Heard>,
     ) -> Result<usize, Unheard>
-        ensures told { (more : List Event) × (events.new.items ≡ events.old.items ++ more) × AllByRecursion (IsToldOn J.told self.old.target) more }
+        ensures told { (more : List Event) × (events_in heard.new.items ≡ events_in heard.old.items ++ more)
+            × AllByRecursion (IsToldOn J.told self.old.target) more }
         ensures target { self.new.target ≡ self.old.target }
         ensures within { IfOk result (λ count. count ≤ length room.new) }
     {
         let Some(mut socket) = self.socket.take() else {
             return Err(Unheard::Stream(ErrorKind::NotConnected));
         };
-        match hear::<J, C::Stream>(&mut self.link, &mut socket, room, now, events) {
+        match hear::<J, C::Stream>(&mut self.link, &mut socket, room, now, heard) {
             Ok(count) => {
                 self.socket = Some(socket);
                 Ok(count)

@@ -54,8 +54,9 @@ pub trait Connects<J: Which> {
 
     type Stream: Socket<J> + Drop;
 
-    /// Begins to connect to this node's address.
+    /// Begins to connect to this node's address, which a connection may be to.
     fn connect(&self, target: Target) -> io::Result<Self::Stream>
+        requires { ∥ J.reaches target ∥₁ }
         ensures { IfOk result (λ socket. Self.Stream.stands socket target [] []) };
 }
 
@@ -131,13 +132,15 @@ impl<J: Which> Socket<J> for NetSocket<J> {
     }
 }
 
-/// Begins to connect to this node's address, and has the system tell of it under this token; none where it can't.
+/// Begins to connect to this node's address, which a connection may be to, and has the system tell of it under this
+/// token; none where it can't.
 pub(crate) fn connected<J: Which, C: Connects<J>>(
     net: &C,
     registry: &Registry,
     token: Token,
     target: Target,
 ) -> Option<C::Stream>
+    requires { ∥ J.reaches target ∥₁ }
     ensures { IfSome result (λ socket. C.Stream.stands socket target [] []) }
 {
     let mut socket = net.connect(target).ok()?;

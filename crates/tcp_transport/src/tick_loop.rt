@@ -11,7 +11,7 @@ use crate::exchange::{Hearing, SentinelEnd, WatchState};
 use crate::far_hellos::is_lost;
 use crate::hello_notes::{Hearer, HelloNotes};
 use crate::replica_notes::ReplicaNotes;
-use ballot_law::{Event, Text};
+use ballot_law::{Event, STEP_MS, Text};
 use links::{CATCH_UP_MS, TickSchedule, WAIT_MAX_MS, is_gap, pause_of, turn_of, without_names};
 use log::Log;
 use sentinel_conf::ConfStore;
@@ -24,6 +24,10 @@ use std::sync::atomic::Ordering;
 
 /// How many events it hears at once before it looks at its clock.
 const EVENTS_MAX: u32 = 1_024;
+
+/// How far apart the ticks are of a Sentinel that is to begin no failover, in milliseconds: it takes that for a step of
+/// its clock, and so is in TILT.
+const APART_MS: u64 = STEP_MS + 200;
 
 /// How many events it keeps for later at most.
 const LATER_MAX: usize = 4_096;
@@ -201,6 +205,9 @@ impl<J: Which> TickLoop<J> {
             &mut outlet,
             (by.known, event),
         );
+        if self.hellos.has_heard(turns.member.roster().masters().len()) {
+            turns.state.heard.store(1, Ordering::SeqCst);
+        }
         self.hold(turns);
         goes_on
     }
@@ -314,6 +321,9 @@ impl<J: Which> TickLoop<J> {
         }
         self.hold(turns);
         let now = turns.now();
+        if self.hellos.has_rival(now) {
+            self.pace.tick_due = began.saturating_add(APART_MS);
+        }
         self.pace.turn(now);
         self.hellos.look(&member.noting(rt), member.roster(), now);
         if let Some(request) = member.take_far(rt) {

@@ -4,14 +4,14 @@ ghost use Rattle.std.specs.Prelude.{◌≡◌, ◌≤◌, ◌++◌, List, IfOk, 
 ghost use Rattle.std.specs.List.{AllByRecursion};
 ghost use Rattle.ballot_law.specs.declared.events.Event.{Event};
 ghost use Rattle.links.specs.NodeLinks.{fresh};
+ghost use Rattle.links.specs.Sessions.Links.{events_in};
 ghost use Rattle.tcp_transport.specs.Sessions.{IsWhole, Leaves};
 ghost use Rattle.tcp_transport.specs.Sockets.{IsQuiet, Gets, MayTell};
 ghost use Rattle.tcp_transport.specs.Told.{IsToldOn};
 ghost use Rattle.tcp_transport.specs.Traffic.{Sends, Hears, IsWhy};
 
 use crate::sockets::Socket;
-use ballot_law::Event;
-use links::{LinkFault, NodeLink};
+use links::{Heard, LinkFault, NodeLink};
 use sentinel_runtime::Which;
 use std::io::ErrorKind;
 
@@ -67,9 +67,9 @@ fn send_unsent<J: Which, S: Socket<J>>(link: &mut NodeLink, socket: &mut S) -> b
 /// away of the front, so all that was put out since it was opened, and what is unsent, is what may be said on it.
 #[tactic(auto, using(crate::proofs::Sending::whole_sent))]
 pub(crate) fn send<J: Which, S: Socket<J>>(link: &mut NodeLink, socket: &mut S) -> bool
-    requires whole { IsWhole J.said (S.stands socket.old) link.old }
+    requires whole { IsWhole J.said J.reaches (S.stands socket.old) link.old }
     ensures sent { Sends (S.stands socket.old) (S.stands socket.new) link.old link.new }
-    ensures whole { IsWhole J.said (S.stands socket.new) link.new }
+    ensures whole { IsWhole J.said J.reaches (S.stands socket.new) link.new }
 {
     send_unsent::<J, S>(link, socket)
 }
@@ -97,13 +97,14 @@ pub(crate) fn hear<J: Which, S: Socket<J>>(
     socket: &mut S,
     room: &mut [u8],
     now: u64,
-    events: &mut Vec<Event>,
+    heard: &mut Vec<Heard>,
 ) -> Result<usize, Unheard>
-    requires whole { IsWhole J.said (S.stands socket.old) link.old }
-    ensures hears { OnOk result (Hears (S.stands socket.old) (S.stands socket.new) link.old link.new events.old.items events.new.items) }
-    ensures why { IfErr result (IsWhy (S.stands socket.old) (S.stands socket.new) link.old events.old.items events.new.items) }
-    ensures told { (more : List Event) × (events.new.items ≡ events.old.items ++ more) × AllByRecursion (IsToldOn J.told link.old.target) more }
-    ensures whole { Leaves (IsWhole J.said (S.stands socket.new) link.new) (link.new.talk ≡ fresh link.old.target) result }
+    requires whole { IsWhole J.said J.reaches (S.stands socket.old) link.old }
+    ensures hears { OnOk result (Hears (S.stands socket.old) (S.stands socket.new) link.old link.new (events_in heard.old.items) (events_in heard.new.items)) }
+    ensures why { IfErr result (IsWhy (S.stands socket.old) (S.stands socket.new) link.old (events_in heard.old.items) (events_in heard.new.items)) }
+    ensures told { (more : List Event) × (events_in heard.new.items ≡ events_in heard.old.items ++ more)
+        × AllByRecursion (IsToldOn J.told link.old.target) more }
+    ensures whole { Leaves (IsWhole J.said J.reaches (S.stands socket.new) link.new) (link.new.talk ≡ fresh link.old.target) result }
     ensures target { link.new.target ≡ link.old.target }
     ensures within { IfOk result (λ count. count ≤ length room.new) }
 {
@@ -111,7 +112,7 @@ pub(crate) fn hear<J: Which, S: Socket<J>>(
         Ok(count) => count,
         Err(kind) => return Err(Unheard::Stream(kind)),
     };
-    match link.received(&room[..count], now, events) {
+    match link.received(&room[..count], now, heard) {
         Ok(()) => Ok(count),
         Err(fault) => Err(Unheard::Fault(fault)),
     }

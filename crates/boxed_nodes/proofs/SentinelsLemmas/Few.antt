@@ -17,17 +17,17 @@ use Rattle.sentinel_outbox.specs.declared.faults.TakeFault.{TakeFault}
 use Rattle.sentinel_outbox.specs.declared.took.Took.{Took}
 use Rattle.sentinel_rules.specs.declared.frames.Frame.{Frame}
 use Rattle.sentinel_rules.specs.declared.frames.Frame.TheVariants.{PingTo, InfoTo, HelloTo, AskTo, PromoteTo, HandOverTo, FollowTo, NoteOf}
-use Rattle.sentinel_rules.specs.Answers.{commanded, asked_of, master_with_card, named, about, all_masters, Answered, unchanged, has_heir, wished, asked_to_switch}
+use Rattle.sentinel_rules.specs.Answers.{commanded, asked_of, master_with_card, named, about, all_masters, Answered, unchanged, is_engaged, has_heir, wished, asked_to_switch}
 use Rattle.sentinel_rules.specs.Facts.{IsSoundPlan}
 use Rattle.sentinel_rules.specs.Parts.{output_of, shown_of}
 use Rattle.sentinel_rules.specs.Plans.{Plan, master_count}
-use Rattle.sentinel_rules.specs.States.{Core, is_failing_over, is_tilted, is_wished}
+use Rattle.sentinel_rules.specs.States.{Core, is_tilted}
 use Rattle.sentinel_rules.specs.Takes.{next, next_at, part_of, cleared}
 use Rattle.sentinel_rules.proofs.Choices.{length-numbers_from}
-use Rattle.sentinel_rules.specs.Profiles.{by_profile}
+use Rattle.sentinel_rules.specs.Profiles.{by_profile, candidate_heeded}
 use Rattle.sentinel_rules.specs.declared.profiles.Profile.{Profile}
 use Rattle.sentinel_rules.specs.declared.profiles.Profile.TheVariants.{Strict, Redis}
-use Rattle.std.specs.Prelude.{◌||◌, if◌then◌else◌, Bool, true, false}
+use Rattle.std.specs.Prelude.{if◌then◌else◌, Bool, true, false}
 
 asked_few : (plan : Plan) (now : ℕ) (addr : Addr) (epoch : ℕ) (candidate : Option RunId) (m : Option ℕ) (core : Core) → IsFewIn (asked_of plan now addr epoch candidate m core).body
 asked_few plan now addr epoch candidate None core = tt
@@ -50,7 +50,7 @@ switch_few m now false false false core going tilt ok none = omega arith
 asked_switch_few : (plan : Plan) (now : ℕ) (m : Option ℕ) (core : Core) → IsFewIn (asked_to_switch plan now m core).body
 asked_switch_few plan now None core = omega arith
 asked_switch_few plan now (Some m) core =
-    switch_few m now (is_failing_over core m || is_wished core m now) (is_tilted core) (has_heir plan core m now) core _ _ _ _
+    switch_few m now (is_engaged plan core m now) (is_tilted core) (has_heir plan core m now) core _ _ _ _
 
 either_few : (profile : Profile) (core : Core) (text : List ℕ) (redis : Answered) → IsFewIn redis.body →
     IsFewIn (by_profile profile (unchanged core (PortReply [] text)) redis).body
@@ -59,7 +59,7 @@ either_few Redis core text redis f = f
 
 answer_few : (plan : Plan) (now : ℕ) (command : Command) (core : Core) → IsSoundPlan plan → IsFewIn (commanded plan now command core).body
 answer_few plan now Ping core p = tt
-answer_few plan now (IsMasterDownByAddr addr epoch candidate) core p = asked_few plan now addr epoch candidate (master_with_card core.kept.masters addr) core
+answer_few plan now (IsMasterDownByAddr addr epoch candidate) core p = asked_few plan now addr epoch (candidate_heeded plan candidate) (master_with_card core.kept.masters addr) core
 answer_few plan now (GetMasterAddrByName name) core p = tt
 answer_few plan now Masters core p =
     let many : length (map (shown_of core) (all_masters plan)) ≡ master_count plan = length-map (all_masters plan) (shown_of core) ∙ length-numbers_from 0 (master_count plan) in

@@ -19,15 +19,15 @@ use Rattle.sentinel_rules.specs.declared.frames.Frame.{Frame}
 use Rattle.sentinel_rules.specs.declared.frames.Frame.TheVariants.{PingTo, InfoTo, HelloTo, AskTo, PromoteTo, HandOverTo, FollowTo, NoteOf}
 use Rattle.sentinel_rules.specs.Named.{IsNamed}
 use Rattle.sentinel_rules.proofs.NamedFrames.{hellos_name_masters}
-use Rattle.sentinel_rules.specs.Answers.{commanded, asked_of, master_with_card, named, about, address_of, numbers_from, Answered, unchanged, has_heir, wished, asked_to_switch}
+use Rattle.sentinel_rules.specs.Answers.{commanded, asked_of, master_with_card, named, about, address_of, numbers_from, Answered, unchanged, is_engaged, has_heir, wished, asked_to_switch}
 use Rattle.sentinel_rules.specs.Parts.{output_of, shown_of, hello_of_master}
 use Rattle.sentinel_rules.specs.Plans.{Plan, roster_of, master_count}
-use Rattle.sentinel_rules.specs.States.{Core, is_failing_over, is_tilted, is_wished}
+use Rattle.sentinel_rules.specs.States.{Core, is_tilted}
 use Rattle.sentinel_rules.specs.Takes.{next, next_at, part_of, cleared}
-use Rattle.sentinel_rules.specs.Profiles.{by_profile}
+use Rattle.sentinel_rules.specs.Profiles.{by_profile, candidate_heeded}
 use Rattle.sentinel_rules.specs.declared.profiles.Profile.{Profile}
 use Rattle.sentinel_rules.specs.declared.profiles.Profile.TheVariants.{Strict, Redis}
-use Rattle.std.specs.Prelude.{◌||◌, if◌then◌else◌, Bool, true, false}
+use Rattle.std.specs.Prelude.{if◌then◌else◌, Bool, true, false}
 
 -- Masters that are found by their names, and all of them
 
@@ -75,7 +75,7 @@ switch_listed roster m now false false false core going tilt ok none = tt
 asked_switch_listed : (plan : Plan) (now : ℕ) (m : Option ℕ) (core : Core) → IsListedIn (roster_of plan) (asked_to_switch plan now m core).body
 asked_switch_listed plan now None core = tt
 asked_switch_listed plan now (Some m) core =
-    switch_listed (roster_of plan) m now (is_failing_over core m || is_wished core m now) (is_tilted core) (has_heir plan core m now) core _ _ _ _
+    switch_listed (roster_of plan) m now (is_engaged plan core m now) (is_tilted core) (has_heir plan core m now) core _ _ _ _
 
 either_listed : (roster : Roster) (profile : Profile) (core : Core) (text : List ℕ) (redis : Answered) → IsListedIn roster redis.body →
     IsListedIn roster (by_profile profile (unchanged core (PortReply [] text)) redis).body
@@ -84,7 +84,7 @@ either_listed roster Redis core text redis f = f
 
 answer_listed : (plan : Plan) (now : ℕ) (command : Command) (core : Core) → IsListedIn (roster_of plan) (commanded plan now command core).body
 answer_listed plan now Ping core = tt
-answer_listed plan now (IsMasterDownByAddr addr epoch candidate) core = asked_listed plan now addr epoch candidate (master_with_card core.kept.masters addr) core
+answer_listed plan now (IsMasterDownByAddr addr epoch candidate) core = asked_listed plan now addr epoch (candidate_heeded plan candidate) (master_with_card core.kept.masters addr) core
 answer_listed plan now (GetMasterAddrByName name) core = address_listed plan core (named plan name) (named_listed plan name)
 answer_listed plan now Masters core = numbers_listed (roster_of plan) core 0 (master_count plan) (omega arith)
 answer_listed plan now (Master name) core = about_listed plan core (named plan name) _ (λ m found. (named_listed plan name m found, tt))

@@ -9,7 +9,8 @@ use Rattle.conf_check.specs.declared.change.changes.Replacement.{Replacement}
 use Rattle.conf_check.specs.declared.change.changes.MasterSetting.{MasterSetting}
 use Rattle.conf_check.specs.declared.change.changes.MasterSetting.TheVariants.{Quorum}
 use Rattle.conf_check.specs.declared.change.changes.Change.{Change}
-use Rattle.conf_check.specs.declared.change.changes.Change.TheVariants.{AddReplica, RemoveReplica, AddSentinel, RemoveSentinel, ReplaceHost, Set}
+use Rattle.conf_check.specs.declared.creation.texts.NewMaster.{NewMaster}
+use Rattle.conf_check.specs.declared.change.changes.Change.TheVariants.{AddMaster, RemoveMaster, AddReplica, RemoveReplica, AddSentinel, RemoveSentinel, ReplaceHost, Set}
 
 -- an address of the host that goes is one of the host that comes, at its port
 abbrev pub moved : Replacement → Addr → Addr
@@ -48,10 +49,19 @@ changed_master change master = record {
   quorum = changed_quorum change master.name master.quorum;
 }
 
+-- a master that is new
+abbrev pub plan_of : NewMaster → MasterPlan
+plan_of new = record { name = new.name; nodes = new.nodes.items; quorum = new.quorum }
+
+abbrev pub changed_masters : Change → List MasterPlan → List MasterPlan
+changed_masters (AddMaster new) masters = map (changed_master (AddMaster new)) masters ++ plan_of new ∷ []
+changed_masters (RemoveMaster name) masters = filter (λ master. not (same_bytes name master.name)) masters
+changed_masters change masters = map (changed_master change) masters
+
 abbrev pub changed_roster : Change → Roster → Roster
 changed_roster change roster = ordered (record {
   sentinels = changed_sentinels change roster.sentinels;
-  masters = map (changed_master change) roster.masters;
+  masters = changed_masters change roster.masters;
 })
 
 -- this is the roster of the first of these files, once it is changed so

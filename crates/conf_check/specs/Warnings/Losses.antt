@@ -20,8 +20,8 @@ beside name (row ∷ rows) = elim (bytes_eq (lower name) row.0) as (λ _. Option
 -- directives behind `sentinel`, and what isn't done for them
 abbrev pub sentinel_losses : List (List ℕ × List ℕ)
 sentinel_losses =
-    (codes "notification-script", codes "no script is run here, so nobody is told by it: subscribe to the events of the port")
-    ∷ (codes "client-reconfig-script", codes "no script is run here: clients learn a new address from the port, or by +switch-master")
+    (codes "notification-script", codes "no script is run here: its companion `sentinel_scripts` calls it, see examples/service")
+    ∷ (codes "client-reconfig-script", codes "no script is run here: its companion `sentinel_scripts` calls it, see examples/service")
     ∷ []
 
 abbrev pub first_losses : List (List ℕ × List ℕ)

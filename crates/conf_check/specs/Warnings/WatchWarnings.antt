@@ -1,6 +1,6 @@
 -- What is told of a file that is to be one for `watch`.
-use Rattle.std.specs.Prelude.{ℕ, Bool, true, false, ◌==◌, nat_le, List, [], ◌∷◌, ◌++◌, length, fold, Option, Some, None, codes, decimal}
-use Rattle.std.specs.List.{filter, flat_map}
+use Rattle.std.specs.Prelude.{ℕ, Bool, true, false, not, ◌&&◌, ◌==◌, nat_le, List, [], ◌∷◌, ◌++◌, length, fold, Option, Some, None, codes, decimal}
+use Rattle.std.specs.List.{filter, flat_map, list_any}
 use Rattle.sentinel_conf.specs.declared.watch.faults.WatchKind.TheVariants as watch
 use Rattle.sentinel_conf.specs.declared.watch.settings.WatchSetting.{WatchSetting}
 use Rattle.sentinel_conf.specs.declared.watch.settings.WatchSetting.TheVariants.{MaxClients, Timeout}
@@ -78,6 +78,10 @@ abbrev pub is_idle_kind : AdviceKind → Bool
 is_idle_kind NoEffect = true
 is_idle_kind _ = false
 
+abbrev pub is_out_of_reach : AdviceKind → Bool
+is_out_of_reach (QuorumOutOfReach quorum) = true
+is_out_of_reach _ = false
+
 abbrev pub is_idle : (texts : List (List ℕ)) → Advice → Bool
 is_idle texts advice = elim (is_idle_kind advice.kind) as (λ _. Bool) [
   | true ↦ is_idle_line (line_at texts advice.line) (watch_line (line_at texts advice.line)) (loss_of (line_at texts advice.line))
@@ -105,7 +109,24 @@ idle_note path texts [] = []
 idle_note path texts (advice ∷ more) =
     codes "note: " ++ (path ++ (codes ": " ++ (decimal (length (advice ∷ more)) ++ (lines_have (length (advice ∷ more)) ++ (places texts (advice ∷ more) ++ codes "\n")))))
 
--- a line for each warning, and then one for the lines without an effect
+abbrev pub is_unelectable : Advice → Bool
+is_unelectable advice = is_out_of_reach advice.kind
+
+-- who is alone in its file elects itself, whoever else watches the same master; not where its quorum is out of reach
+abbrev pub is_alone : (sentinels : ℕ) → List Advice → Bool
+is_alone sentinels told = (sentinels == 1) && not (list_any is_unelectable told)
+
+abbrev pub alone_words : (path : List ℕ) → List ℕ
+alone_words path =
+    codes "warning: "
+    ++ (path
+    ++ codes ": it names no other Sentinel, so this one elects itself: where others watch the same master, name each in all files by `sentinel known-sentinel`\n")
+
+abbrev pub alone_warning : (path : List ℕ) → (sentinels : ℕ) → List Advice → List ℕ
+alone_warning path sentinels told = elim (is_alone sentinels told) as (λ _. List ℕ) [ true ↦ alone_words path | false ↦ [] ]
+
+-- that it is alone, a line for each warning, and then one for the lines without an effect
 abbrev pub watch_warnings : (first sentinel : List (List ℕ)) → (sentinels : ℕ) → (path : List ℕ) → (texts : List (List ℕ)) → List Advice → List ℕ
 watch_warnings first sentinel sentinels path texts told =
-    flat_map (watch_warning first sentinel sentinels path texts) told ++ idle_note path texts (filter (is_idle texts) told)
+    alone_warning path sentinels told
+    ++ (flat_map (watch_warning first sentinel sentinels path texts) told ++ idle_note path texts (filter (is_idle texts) told))

@@ -2,7 +2,7 @@
 //! compared with the files of before.
 
 use crate::change::changes::{Change, MasterSetting, NewSetting};
-use crate::creation::{add, add_addr, add_own, add_setting, begin};
+use crate::creation::{add, add_addr, add_master, add_own, add_replica, add_setting, begin};
 use ballot_law::{Addr, Member, Name, NoMemory, Roster, RunId};
 use conf_lines::{Line, Setting, StateLine};
 use sentinel_conf::{ReadLine, WatchLine, WatchSetting, line_of as watch_line_of, read_lines};
@@ -52,13 +52,6 @@ impl<'a> Edit<'a> {
 /// Adds a line as it stands.
 fn add_line(out: &mut Vec<u8>, line: &[u8]) -> Result<(), NoMemory> {
     out.extend_from_slice(line)?;
-    add(out, "\n")
-}
-
-/// Adds the line of a replica.
-fn add_replica(out: &mut Vec<u8>, name: &Name, addr: Addr) -> Result<(), NoMemory> {
-    begin(out, "known-replica", name)?;
-    add_addr(out, addr)?;
     add(out, "\n")
 }
 
@@ -176,8 +169,46 @@ fn add_old_setting(
     add_line(out, line)
 }
 
+/// The master of which a setting speaks.
+fn name_in(setting: &WatchSetting) -> Option<Name> {
+    match setting {
+        WatchSetting::NodePass { name, .. } => Some(*name),
+        WatchSetting::NodeUser { name, .. } => Some(*name),
+        WatchSetting::Reboot { name, .. } => Some(*name),
+        _ => None,
+    }
+}
+
+/// The master of which a line speaks that counts for `watch` alone.
+fn watched_name(alloc: Global, text: &[u8]) -> Result<Option<Name>, NoMemory> {
+    match watch_line_of(alloc, text)? {
+        WatchLine::Says(setting) => Ok(name_in(&setting)),
+        _ => Ok(None),
+    }
+}
+
+/// Whether a line speaks of the master that goes.
+fn is_of_gone(alloc: Global, line: &ReadLine<'_>, change: &Change) -> Result<bool, NoMemory> {
+    let Change::RemoveMaster(gone) = change else {
+        return Ok(false);
+    };
+    let named = match line.line() {
+        Line::Kept => watched_name(alloc, line.text())?,
+        read => read.master_name(),
+    };
+    Ok(matches!(named, Some(name) if name.is_same(*gone)))
+}
+
 /// Adds what becomes of a line.
-fn add_changed(out: &mut Vec<u8>, line: &ReadLine<'_>, edit: &Edit<'_>) -> Result<(), NoMemory> {
+fn add_changed(
+    alloc: Global,
+    out: &mut Vec<u8>,
+    line: &ReadLine<'_>,
+    edit: &Edit<'_>,
+) -> Result<(), NoMemory> {
+    if is_of_gone(alloc, line, edit.change)? {
+        return Ok(());
+    }
     let text = line.text();
     match line.line() {
         Line::State(state) => add_state(out, text, state, edit),
@@ -213,6 +244,7 @@ fn add_more(
         }
     }
     match edit.change {
+        Change::AddMaster(new) => add_master(out, new),
         Change::AddReplica(replica) => add_replica(out, &replica.master, replica.addr),
         Change::Set(new) if !sets(lines, new) => add_new_setting(out, new),
         _ => Ok(()),
@@ -231,7 +263,7 @@ pub(crate) fn changed_text(
     let mut out = Vec::new(alloc);
     let mut rest = lines.as_slice();
     while let [line, more @ ..] = rest {
-        add_changed(&mut out, line, edit)?;
+        add_changed(alloc, &mut out, line, edit)?;
         rest = more;
     }
     add_more(&mut out, &lines, roster, own, edit)?;

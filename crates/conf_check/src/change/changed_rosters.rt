@@ -3,7 +3,7 @@
 ghost use Rattle.std.specs.Prelude.{◌≡◌, IfOk, IsTrue, All, map, filter, not};
 ghost use Rattle.ballot_law.specs.Orders.{same_addr, same_bytes, same_id};
 ghost use Rattle.conf_check.specs.Change.ChangedRosters.{moved, replaced, changed_sentinels, changed_nodes};
-ghost use Rattle.conf_check.specs.Change.ChangedRosters.{changed_quorum, changed_master};
+ghost use Rattle.conf_check.specs.Change.ChangedRosters.{changed_quorum, changed_master, changed_masters};
 ghost use Rattle.conf_check.specs.Change.ChangedRosters.{IsChangedRoster, HasChangedRoster};
 
 use crate::change::changes::{Change, ChangeFault, MasterSetting, Replacement};
@@ -101,9 +101,11 @@ fn changed_sentinels(
         }
         Change::RemoveSentinel(id) => sentinels_without(alloc, members, id),
         Change::ReplaceHost(host) => all_replaced(alloc, host, members),
-        Change::AddReplica(_) | Change::RemoveReplica(_) | Change::Set(_) => {
-            Vec::from_slice(alloc, members)
-        }
+        Change::AddMaster(_)
+        | Change::RemoveMaster(_)
+        | Change::AddReplica(_)
+        | Change::RemoveReplica(_)
+        | Change::Set(_) => Vec::from_slice(alloc, members),
     }
 }
 
@@ -154,9 +156,11 @@ fn changed_nodes(
             }
         }
         Change::ReplaceHost(host) => all_moved(alloc, host, nodes),
-        Change::AddSentinel(_) | Change::RemoveSentinel(_) | Change::Set(_) => {
-            Vec::from_slice(alloc, nodes)
-        }
+        Change::AddMaster(_)
+        | Change::RemoveMaster(_)
+        | Change::AddSentinel(_)
+        | Change::RemoveSentinel(_)
+        | Change::Set(_) => Vec::from_slice(alloc, nodes),
     }
 }
 
@@ -177,7 +181,9 @@ fn changed_quorum(change: &Change, name: &Name, quorum: u32) -> u32
                 quorum
             }
         }
-        Change::AddReplica(_)
+        Change::AddMaster(_)
+        | Change::RemoveMaster(_)
+        | Change::AddReplica(_)
         | Change::RemoveReplica(_)
         | Change::AddSentinel(_)
         | Change::RemoveSentinel(_)
@@ -194,8 +200,8 @@ fn changed_master(alloc: Global, change: &Change, master: &Watched) -> Result<Wa
     Ok(Watched::new(master.name, nodes, quorum))
 }
 
-/// The masters of the changed group.
-fn changed_masters(
+/// These masters, each as it is once the group is changed.
+fn each_changed(
     alloc: Global,
     change: &Change,
     masters: &[Watched],
@@ -209,6 +215,51 @@ fn changed_masters(
         rest = more;
     }
     Ok(list)
+}
+
+/// The masters but the one of this name.
+fn masters_without(
+    alloc: Global,
+    masters: &[Watched],
+    gone: &Name,
+) -> Result<Vec<Watched>, AllocError>
+    ensures { IfOk result (λ list. list.items ≡ filter (λ master. not (same_bytes gone.now master.name)) masters.now) }
+{
+    let mut list = Vec::new(alloc);
+    let mut rest = masters;
+    while let [master, more @ ..] = rest {
+        if !is_name(gone, &master.name) {
+            let nodes = Vec::from_slice(alloc, master.nodes())?;
+            list.push(Watched::new(master.name, nodes, master.quorum))?;
+        }
+        rest = more;
+    }
+    Ok(list)
+}
+
+/// The masters of the changed group.
+fn changed_masters(
+    alloc: Global,
+    change: &Change,
+    masters: &[Watched],
+) -> Result<Vec<Watched>, AllocError>
+    ensures { IfOk result (λ list. list.items ≡ changed_masters change.now masters.now) }
+{
+    match change {
+        Change::AddMaster(new) => {
+            let mut list = each_changed(alloc, change, masters)?;
+            let nodes = Vec::from_slice(alloc, new.nodes.as_slice())?;
+            list.push(Watched::new(new.name, nodes, new.quorum))?;
+            Ok(list)
+        }
+        Change::RemoveMaster(name) => masters_without(alloc, masters, name),
+        Change::AddReplica(_)
+        | Change::RemoveReplica(_)
+        | Change::AddSentinel(_)
+        | Change::RemoveSentinel(_)
+        | Change::ReplaceHost(_)
+        | Change::Set(_) => each_changed(alloc, change, masters),
+    }
 }
 
 /// The roster of the first file's group, once it is changed.

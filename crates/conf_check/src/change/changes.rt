@@ -1,6 +1,8 @@
 //! What is changed of a group, and why it isn't.
 
+use crate::creation::NewMaster;
 use ballot_law::{Addr, Member, Name, RunId};
+use std::alloc::AllocError;
 use thiserror::Error;
 
 /// A replica of a master.
@@ -45,8 +47,10 @@ pub struct NewSetting {
 }
 
 /// A change of a group.
-#[derive(Clone, Copy, PartialEq, Eq)]
+#[derive(Drop)]
 pub enum Change {
+    AddMaster(NewMaster),
+    RemoveMaster(Name),
     AddReplica(ReplicaOf),
     RemoveReplica(ReplicaOf),
     /// A Sentinel with a new run id.
@@ -65,6 +69,12 @@ pub enum ChangeFault {
     /// Two of them hold configurations of a master that have one epoch, the greatest, and two addresses.
     #[error("TwoAddresses")]
     TwoAddresses,
+    /// A master has this name already.
+    #[error("SameName")]
+    SameName,
+    /// The group would be left without a master.
+    #[error("LastMaster")]
+    LastMaster,
     /// No master has this name.
     #[error("NoSuchMaster")]
     NoSuchMaster,
@@ -107,4 +117,15 @@ pub enum ChangeFault {
     /// Memory was refused.
     #[error("NoMemory")]
     NoMemory,
+}
+
+impl From<AllocError> for ChangeFault {
+    ghost use Rattle.std.specs.Prelude.{◌≡◌};
+    ghost use Rattle.conf_check.specs.declared.change.changes.ChangeFault.TheVariants.{NoMemory};
+
+    ghost from_gives = { λ _ fault. fault ≡ NoMemory };
+
+    fn from(_error: AllocError) -> ChangeFault {
+        ChangeFault::NoMemory
+    }
 }

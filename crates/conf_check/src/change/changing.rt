@@ -162,8 +162,6 @@ pub fn changed_texts<C: HoldsConf>(
     if !all_name(files, change, &roster, confs.as_slice()) {
         return Err(ChangeFault::Unkept);
     }
-    if !all_keep(files, &newest, change, confs.as_slice()) {
-        return Err(ChangeFault::Unkept);
-    }
+    all_keep(alloc, files, &newest, change, confs.as_slice())?;
     Ok(texts)
 }

@@ -1,23 +1,105 @@
 //! Whether the new files of a changed group keep what those of before hold.
 
-ghost use Rattle.std.specs.Prelude.{◌≡◌, ◌==◌, All, IsTrue, true, None, map};
+ghost use Rattle.std.specs.Prelude.{◌≡◌, ◌==◌, All, IsTrue, IfOk, OnOk, true, false, None, map};
 ghost use Rattle.std.specs.List.{list_any};
 ghost use Rattle.ballot_law.specs.Orders.{same_id};
-ghost use Rattle.conf_check.specs.Repair.Mended.{card_of, vote_of, cards_of, newest, last_epoch};
+ghost use Rattle.conf_check.specs.Repair.Mended.{card_of, vote_of, newest, last_epoch};
+ghost use Rattle.conf_check.specs.Change.Keeping.{others_of, own_of, staying, kept_staying, kept_coming, begun};
 ghost use Rattle.conf_check.specs.Change.Keeping.{NamesNot, HaveSameVotes, HaveNoVotes, KeepsVotes};
-ghost use Rattle.conf_check.specs.Change.Keeping.{IsClearOf, AreNotBelow, IsNotBelow, LeavesOut, Keeps};
+ghost use Rattle.conf_check.specs.Change.Keeping.{IsClearOf, AreNotBelow, IsNotBelow, HasNewest, LeavesOut, Keeps};
+ghost use Rattle.conf_check.specs.declared.change.changes.Change.TheVariants.{AddMaster};
 
-use crate::change::changes::Change;
+use crate::change::changes::{Change, ChangeFault};
+use crate::creation::NewMaster;
 use crate::group::{HoldsConf, is_same_card, own_id};
 use crate::repair::Newest;
-use ballot_law::{Addr, Card, KeptMaster, Member, Roster, RunId};
+use ballot_law::{Addr, Card, KeptMaster, Member, Name, Roster, RunId, Watched, is_same_bytes};
 use sentinel_conf::Conf;
+use std::alloc::{AllocError, Global};
+
+/// Of a list with one of each master those of the masters with other names.
+fn others_of<T: Copy>(
+    alloc: Global,
+    name: &Name,
+    masters: &[Watched],
+    items: &[T],
+) -> Result<Vec<T>, AllocError>
+    ensures { IfOk result (λ list. list.items ≡ others_of name.now masters.now items.now) }
+{
+    let mut list = Vec::new(alloc);
+    let mut rest = masters;
+    let mut others = items;
+    while let [master, more @ ..] = rest {
+        let Some((item, behind)) = others.split_first() else {
+            return Ok(list);
+        };
+        if !is_same_bytes(name.as_slice(), master.name.as_slice()) {
+            list.push(*item)?;
+        }
+        rest = more;
+        others = behind;
+    }
+    Ok(list)
+}
+
+/// Of a list with one of each master that of the master of this name.
+fn own_of<T: Copy>(
+    alloc: Global,
+    name: &Name,
+    masters: &[Watched],
+    items: &[T],
+) -> Result<Vec<T>, AllocError>
+    ensures { IfOk result (λ list. list.items ≡ own_of name.now masters.now items.now) }
+{
+    let mut list = Vec::new(alloc);
+    let mut rest = masters;
+    let mut others = items;
+    while let [master, more @ ..] = rest {
+        let Some((item, behind)) = others.split_first() else {
+            return Ok(list);
+        };
+        if is_same_bytes(name.as_slice(), master.name.as_slice()) {
+            list.push(*item)?;
+        }
+        rest = more;
+        others = behind;
+    }
+    Ok(list)
+}
+
+/// Of a list with one of each master those of the masters that neither come nor go.
+fn staying<T: Copy>(
+    alloc: Global,
+    change: &Change,
+    masters: &[Watched],
+    items: &[T],
+) -> Result<Vec<T>, AllocError>
+    ensures { IfOk result (λ list. list.items ≡ staying change.now masters.now items.now) }
+{
+    match change {
+        Change::AddMaster(new) => others_of(alloc, &new.name, masters, items),
+        Change::RemoveMaster(name) => others_of(alloc, name, masters, items),
+        Change::AddReplica(_)
+        | Change::RemoveReplica(_)
+        | Change::AddSentinel(_)
+        | Change::RemoveSentinel(_)
+        | Change::ReplaceHost(_)
+        | Change::Set(_) => Vec::from_slice(alloc, items),
+    }
+}
 
 /// What a file keeps of its masters.
 fn kept_masters(conf: &Conf) -> &[KeptMaster]
     ensures { result.now ≡ conf.now.kept.masters }
 {
     conf.kept().masters.as_slice()
+}
+
+/// What a file keeps of the masters that stay.
+fn kept_staying(alloc: Global, change: &Change, conf: &Conf) -> Result<Vec<KeptMaster>, AllocError>
+    ensures { IfOk result (λ list. list.items ≡ kept_staying change.now conf.now) }
+{
+    staying(alloc, change, conf.roster().masters(), kept_masters(conf))
 }
 
 /// Whether a Sentinel is at this ip.
@@ -123,28 +205,41 @@ fn has_file_of<C: HoldsConf>(files: &[C], new: &Conf) -> bool
     files.iter().any(|file| own_id(file.conf()).is_same(&id))
 }
 
-/// Whether the new file has the votes of this one, where both are of one Sentinel.
-fn keeps_votes_of(file: &Conf, new: &Conf) -> bool
-    ensures { IsTrue result → same_id file.now.id new.now.id ≡ true
-        → HaveSameVotes file.now.kept.masters new.now.kept.masters }
+/// Refuses a new file that hasn't the votes of this one, where both are of one Sentinel.
+fn keeps_votes_of(
+    alloc: Global,
+    change: &Change,
+    file: &Conf,
+    new: &Conf,
+) -> Result<(), ChangeFault>
+    ensures { OnOk result (same_id file.now.id new.now.id ≡ true
+        → HaveSameVotes (kept_staying change.now file.now) (kept_staying change.now new.now)) }
 {
     if !own_id(file).is_same(&own_id(new)) {
-        return true;
+        return Ok(());
     }
-    have_same_votes(kept_masters(file), kept_masters(new))
+    let was = kept_staying(alloc, change, file)?;
+    let is = kept_staying(alloc, change, new)?;
+    if have_same_votes(&was, &is) {
+        return Ok(());
+    }
+    Err(ChangeFault::Unkept)
 }
 
-/// Whether the new file has the votes of each file of its Sentinel.
-fn keeps_own<C: HoldsConf>(files: &[C], new: &Conf) -> bool
-    ensures { IsTrue result → All (λ file. same_id (C.conf_of file).id new.now.id ≡ true
-        → HaveSameVotes (C.conf_of file).kept.masters new.now.kept.masters) files.now }
+/// Refuses a new file that hasn't the votes of each file of its Sentinel.
+fn keeps_own<C: HoldsConf>(
+    alloc: Global,
+    files: &[C],
+    change: &Change,
+    new: &Conf,
+) -> Result<(), ChangeFault>
+    ensures { OnOk result (All (λ file. same_id (C.conf_of file).id new.now.id ≡ true
+        → HaveSameVotes (kept_staying change.now (C.conf_of file)) (kept_staying change.now new.now)) files.now) }
 {
     for k in 0..files.len() {
-        if !keeps_votes_of(files[k].conf(), new) {
-            return false;
-        }
+        keeps_votes_of(alloc, change, files[k].conf(), new)?;
     }
-    true
+    Ok(())
 }
 
 /// Whether no file names a Sentinel with this run id.
@@ -159,13 +254,13 @@ fn is_named_nowhere<C: HoldsConf>(files: &[C], id: RunId) -> bool
     true
 }
 
-/// Whether the new file has the votes that its Sentinel gave, and none where it is new.
-fn keeps_votes<C: HoldsConf>(files: &[C], new: &Conf) -> bool
-    ensures { IsTrue result → KeepsVotes C.conf_of files.now new.now }
+/// Whether the Sentinel of the new file has a file of before, or else no vote and a run id that none of them has.
+fn is_known_or_new<C: HoldsConf>(files: &[C], new: &Conf) -> bool
+    ensures unknown { IsTrue result → list_any (λ file. same_id (C.conf_of file).id new.now.id) files.now ≡ false
+        → All (λ file. NamesNot new.now.id (C.conf_of file)) files.now }
+    ensures none { IsTrue result → list_any (λ file. same_id (C.conf_of file).id new.now.id) files.now ≡ false
+        → HaveNoVotes new.now.kept.masters }
 {
-    if !keeps_own(files, new) {
-        return false;
-    }
     if has_file_of(files, new) {
         return true;
     }
@@ -173,6 +268,22 @@ fn keeps_votes<C: HoldsConf>(files: &[C], new: &Conf) -> bool
         return false;
     }
     have_no_votes(kept_masters(new))
+}
+
+/// Refuses a new file that hasn't the votes that its Sentinel gave, or has some though it is new.
+fn keeps_votes<C: HoldsConf>(
+    alloc: Global,
+    files: &[C],
+    change: &Change,
+    new: &Conf,
+) -> Result<(), ChangeFault>
+    ensures { OnOk result (KeepsVotes C.conf_of files.now change.now new.now) }
+{
+    keeps_own(alloc, files, change, new)?;
+    if is_known_or_new(files, new) {
+        return Ok(());
+    }
+    Err(ChangeFault::Unkept)
 }
 
 /// Whether no configuration of the second is of an earlier epoch than that of the first.
@@ -190,26 +301,34 @@ fn are_not_below(olds: &[KeptMaster], news: &[KeptMaster]) -> bool
     true
 }
 
-/// Whether no epoch of the second file is below that of the first.
-fn is_not_below(was: &Conf, is: &Conf) -> bool
-    ensures { IsTrue result → IsNotBelow was.now.kept is.now.kept }
+/// Refuses a second file of which an epoch is below that of the first.
+fn is_not_below(alloc: Global, change: &Change, was: &Conf, is: &Conf) -> Result<(), ChangeFault>
+    ensures { OnOk result (IsNotBelow change.now was.now is.now) }
 {
     if was.kept().current > is.kept().current {
-        return false;
+        return Err(ChangeFault::Unkept);
     }
-    are_not_below(kept_masters(was), kept_masters(is))
+    let olds = kept_staying(alloc, change, was)?;
+    let news = kept_staying(alloc, change, is)?;
+    if are_not_below(&olds, &news) {
+        return Ok(());
+    }
+    Err(ChangeFault::Unkept)
 }
 
-/// Whether no epoch of the new file is below that of one of these.
-fn is_below_none<C: HoldsConf>(files: &[C], new: &Conf) -> bool
-    ensures { IsTrue result → All (λ file. IsNotBelow (C.conf_of file).kept new.now.kept) files.now }
+/// Refuses a new file of which an epoch is below that of one of these.
+fn is_below_none<C: HoldsConf>(
+    alloc: Global,
+    files: &[C],
+    change: &Change,
+    new: &Conf,
+) -> Result<(), ChangeFault>
+    ensures { OnOk result (All (λ file. IsNotBelow change.now (C.conf_of file) new.now) files.now) }
 {
     for k in 0..files.len() {
-        if !is_not_below(files[k].conf(), new) {
-            return false;
-        }
+        is_not_below(alloc, change, files[k].conf(), new)?;
     }
-    true
+    Ok(())
 }
 
 /// Whether the masters have these configurations.
@@ -255,50 +374,112 @@ fn leaves_out(change: &Change, new: &Conf) -> bool
     }
 }
 
-/// Whether the new file holds the newest configurations of the files.
-fn has_newest(all: &Newest, new: &Conf) -> bool
-    ensures current { IsTrue result → new.now.kept.current ≡ all.now.current }
-    ensures cards { IsTrue result → cards_of new.now ≡ all.now.cards.items }
-{
-    if new.kept().current != all.current {
-        return false;
-    }
-    have_cards(kept_masters(new), &all.cards)
-}
-
-/// Whether the new file keeps what those of before hold.
-fn keeps<C: HoldsConf>(files: &[C], all: &Newest, change: &Change, new: &Conf) -> bool
+/// Refuses a new file that doesn't hold the newest configurations of the files, of which this is one.
+fn has_newest<C: HoldsConf>(
+    alloc: Global,
+    files: &[C],
+    all: &Newest,
+    change: &Change,
+    new: &Conf,
+) -> Result<(), ChangeFault>
     requires current { all.now.current ≡ last_epoch (map C.conf_of files.now) }
     requires cards { all.now.cards.items ≡ newest (map C.conf_of files.now) }
-    ensures { IsTrue result → Keeps C.conf_of files.now change.now new.now }
+    ensures { OnOk result (HasNewest (map C.conf_of files.now) change.now new.now) }
 {
-    if !keeps_votes(files, new) {
-        return false;
+    let Some((first, _)) = files.split_first() else {
+        return Err(ChangeFault::NotOneRoster);
+    };
+    if new.kept().current != all.current {
+        return Err(ChangeFault::Unkept);
     }
-    if !is_below_none(files, new) {
-        return false;
+    let cards = staying(alloc, change, first.conf().roster().masters(), &all.cards)?;
+    let news = kept_staying(alloc, change, new)?;
+    if have_cards(&news, &cards) {
+        return Ok(());
     }
-    if !has_newest(all, new) {
-        return false;
-    }
-    leaves_out(change, new)
+    Err(ChangeFault::Unkept)
 }
 
-/// Whether each new file keeps what those of before hold.
+/// Whether this is kept of a master that is there alone: this one, of which nothing is known yet.
+fn is_begun(kept: &[KeptMaster], new: &NewMaster) -> bool
+    ensures { IsTrue result → kept.now ≡ begun (AddMaster new.now) }
+{
+    let [one] = kept else {
+        return false;
+    };
+    let addr = match new.nodes.as_slice() {
+        [first, ..] => *first,
+        [] => return false,
+    };
+    if !is_same_card(one.card, Card { addr, epoch: 0 }) {
+        return false;
+    }
+    is_no_vote(one)
+}
+
+/// Refuses a new file that knows more of a master that comes than where it is.
+fn begins(alloc: Global, change: &Change, new: &Conf) -> Result<(), ChangeFault>
+    ensures { OnOk result (kept_coming change.now new.now ≡ begun change.now) }
+{
+    match change {
+        Change::AddMaster(master) => {
+            let kept = own_of(
+                alloc,
+                &master.name,
+                new.roster().masters(),
+                kept_masters(new),
+            )?;
+            if is_begun(&kept, master) {
+                return Ok(());
+            }
+            Err(ChangeFault::Unkept)
+        }
+        Change::RemoveMaster(_)
+        | Change::AddReplica(_)
+        | Change::RemoveReplica(_)
+        | Change::AddSentinel(_)
+        | Change::RemoveSentinel(_)
+        | Change::ReplaceHost(_)
+        | Change::Set(_) => Ok(()),
+    }
+}
+
+/// Refuses a new file that doesn't keep what those of before hold.
+fn keeps<C: HoldsConf>(
+    alloc: Global,
+    files: &[C],
+    all: &Newest,
+    change: &Change,
+    new: &Conf,
+) -> Result<(), ChangeFault>
+    requires current { all.now.current ≡ last_epoch (map C.conf_of files.now) }
+    requires cards { all.now.cards.items ≡ newest (map C.conf_of files.now) }
+    ensures { OnOk result (Keeps C.conf_of files.now change.now new.now) }
+{
+    keeps_votes(alloc, files, change, new)?;
+    is_below_none(alloc, files, change, new)?;
+    has_newest(alloc, files, all, change, new)?;
+    begins(alloc, change, new)?;
+    if leaves_out(change, new) {
+        return Ok(());
+    }
+    Err(ChangeFault::Unkept)
+}
+
+/// Refuses new files of which one doesn't keep what those of before hold.
 pub(crate) fn all_keep<C: HoldsConf>(
+    alloc: Global,
     files: &[C],
     all: &Newest,
     change: &Change,
     news: &[Conf],
-) -> bool
+) -> Result<(), ChangeFault>
     requires current { all.now.current ≡ last_epoch (map C.conf_of files.now) }
     requires cards { all.now.cards.items ≡ newest (map C.conf_of files.now) }
-    ensures { IsTrue result → All (Keeps C.conf_of files.now change.now) news.now }
+    ensures { OnOk result (All (Keeps C.conf_of files.now change.now) news.now) }
 {
     for k in 0..news.len() {
-        if !keeps(files, all, change, &news[k]) {
-            return false;
-        }
+        keeps(alloc, files, all, change, &news[k])?;
     }
-    true
+    Ok(())
 }

@@ -4,6 +4,7 @@ use crate::change::changes::{
     Change, ChangeFault, MasterSetting, NewSetting, Replacement, ReplicaOf,
 };
 use crate::change::keeping::{has_node_at, has_sentinel_at};
+use crate::creation::NewMaster;
 use ballot_law::{Addr, Name, Roster, RunId};
 use sentinel_conf::Conf;
 
@@ -19,6 +20,31 @@ fn is_taken(roster: &Roster, addr: Addr) -> bool {
 /// Whether a Sentinel or a data node is at this ip.
 fn has_host(roster: &Roster, ip: u32) -> bool {
     has_sentinel_at(roster, ip) || has_node_at(roster, ip)
+}
+
+/// Why this master isn't added.
+fn fault_of_new_master(roster: &Roster, new: &NewMaster) -> Option<ChangeFault> {
+    if roster.master_named(&new.name).is_some() {
+        return Some(ChangeFault::SameName);
+    }
+    if new.nodes.iter().any(|addr| is_taken(roster, *addr)) {
+        return Some(ChangeFault::AddressTaken);
+    }
+    if new.quorum == 0 || new.quorum as usize > roster.sentinels().len() {
+        return Some(ChangeFault::BadQuorum);
+    }
+    None
+}
+
+/// Why this master doesn't go.
+fn fault_of_old_master(roster: &Roster, name: &Name) -> Option<ChangeFault> {
+    if roster.master_named(name).is_none() {
+        return Some(ChangeFault::NoSuchMaster);
+    }
+    if roster.masters().len() <= 1 {
+        return Some(ChangeFault::LastMaster);
+    }
+    None
 }
 
 /// Why this replica isn't added.
@@ -107,6 +133,8 @@ fn fault_of_setting(roster: &Roster, new: &NewSetting) -> Option<ChangeFault> {
 pub(crate) fn fault_of(conf: &Conf, change: &Change) -> Option<ChangeFault> {
     let roster = conf.roster();
     match change {
+        Change::AddMaster(new) => fault_of_new_master(roster, new),
+        Change::RemoveMaster(name) => fault_of_old_master(roster, name),
         Change::AddReplica(replica) => fault_of_new_replica(roster, replica),
         Change::RemoveReplica(replica) => fault_of_old_replica(conf, replica),
         Change::AddSentinel(member) if is_taken(roster, member.addr) => {

@@ -6,6 +6,7 @@ ghost use Rattle.conf_check.specs.Repair.GroupTexts.{AreFilesOfOneGroup};
 use crate::repair::are_one_group;
 use ballot_law::{Addr, Member, Name, NoMemory, Text};
 use std::alloc::Global;
+use std::str::from_utf8;
 use thiserror::Error;
 use tokens::{add_number, ip_text, run_id_text};
 
@@ -13,18 +14,27 @@ use tokens::{add_number, ip_text, run_id_text};
 /// that later.
 const FAILOVER_TIMEOUT_MS: u64 = 10_000;
 
-/// What a new group is to be: one master with its replicas, and its Sentinels.
+/// How long a password may be, in bytes.
+const PASSWORD_MAX: usize = 4_096;
+
+/// A master that is new in files, with its replicas.
 #[derive(Drop)]
-pub struct NewGroup {
+pub struct NewMaster {
     pub name: Name,
     /// The master, and then its replicas.
     pub nodes: Vec<Addr>,
-    pub sentinels: Vec<Member>,
     pub quorum: u32,
     /// After how many milliseconds without an answer a node is down.
     pub down_after_ms: u32,
     /// With which password the Sentinels log in to the data nodes; an empty one is none.
     pub password: Vec<u8>,
+}
+
+/// What a new group is to be: one master with its replicas, and its Sentinels.
+#[derive(Drop)]
+pub struct NewGroup {
+    pub master: NewMaster,
+    pub sentinels: Vec<Member>,
 }
 
 /// Why no files are made.
@@ -44,9 +54,13 @@ fn is_password_byte(byte: u8) -> bool {
     byte >= b' ' && byte != 127
 }
 
-/// Whether these bytes can be a password in a conf: at least one, and no control byte.
+/// Whether these bytes can be a password in a conf: at least one and at most `PASSWORD_MAX`, in UTF-8, and no control
+/// byte.
 pub fn is_password(bytes: &[u8]) -> bool {
-    !bytes.is_empty() && bytes.iter().all(|byte| is_password_byte(*byte))
+    if bytes.is_empty() || bytes.len() > PASSWORD_MAX || from_utf8(bytes).is_err() {
+        return false;
+    }
+    bytes.iter().all(|byte| is_password_byte(*byte))
 }
 
 /// Adds words.
@@ -106,29 +120,48 @@ pub(crate) fn add_own(out: &mut Vec<u8>, own: &Member) -> Result<(), NoMemory> {
     add(out, "\n")
 }
 
-/// Adds the lines of the master.
-fn add_master(out: &mut Vec<u8>, group: &NewGroup, master: Addr) -> Result<(), NoMemory> {
-    begin(out, "monitor", &group.name)?;
-    add_addr(out, master)?;
-    add(out, " ")?;
-    add_number(out, u64::from(group.quorum))?;
-    add(out, "\n")?;
-    let down_after = u64::from(group.down_after_ms);
-    add_setting(out, "down-after-milliseconds", &group.name, down_after)?;
-    add_setting(out, "failover-timeout", &group.name, FAILOVER_TIMEOUT_MS)?;
-    if group.password.is_empty() {
+/// Adds the lines of the master's settings.
+fn add_settings(out: &mut Vec<u8>, new: &NewMaster) -> Result<(), NoMemory> {
+    let down_after = u64::from(new.down_after_ms);
+    add_setting(out, "down-after-milliseconds", &new.name, down_after)?;
+    add_setting(out, "failover-timeout", &new.name, FAILOVER_TIMEOUT_MS)?;
+    if new.password.is_empty() {
         return Ok(());
     }
-    begin(out, "auth-pass", &group.name)?;
-    add_quoted(out, &group.password)?;
+    begin(out, "auth-pass", &new.name)?;
+    add_quoted(out, &new.password)?;
     add(out, "\n")
+}
+
+/// Adds the line of a replica.
+pub(crate) fn add_replica(out: &mut Vec<u8>, name: &Name, addr: Addr) -> Result<(), NoMemory> {
+    begin(out, "known-replica", name)?;
+    add_addr(out, addr)?;
+    add(out, "\n")
+}
+
+/// Adds the lines of the master and its replicas; none where it has no node.
+pub(crate) fn add_master(out: &mut Vec<u8>, new: &NewMaster) -> Result<(), NoMemory> {
+    let Some((master, replicas)) = new.nodes.as_slice().split_first() else {
+        return Ok(());
+    };
+    begin(out, "monitor", &new.name)?;
+    add_addr(out, *master)?;
+    add(out, " ")?;
+    add_number(out, u64::from(new.quorum))?;
+    add(out, "\n")?;
+    add_settings(out, new)?;
+    for replica in replicas {
+        add_replica(out, &new.name, *replica)?;
+    }
+    Ok(())
 }
 
 /// Adds the lines of the other Sentinels.
 fn add_others(out: &mut Vec<u8>, group: &NewGroup, own: &Member) -> Result<(), NoMemory> {
     for other in group.sentinels.iter() {
         if !other.id.is_same(&own.id) {
-            begin(out, "known-sentinel", &group.name)?;
+            begin(out, "known-sentinel", &group.master.name)?;
             add_addr(out, other.addr)?;
             add(out, " ")?;
             out.extend_from_slice(run_id_text(other.id).as_slice())?;
@@ -142,14 +175,7 @@ fn add_others(out: &mut Vec<u8>, group: &NewGroup, own: &Member) -> Result<(), N
 fn text_of(alloc: Global, group: &NewGroup, own: &Member) -> Result<Text, NoMemory> {
     let mut out = Vec::new(alloc);
     add_own(&mut out, own)?;
-    if let Some((master, replicas)) = group.nodes.as_slice().split_first() {
-        add_master(&mut out, group, *master)?;
-        for replica in replicas {
-            begin(&mut out, "known-replica", &group.name)?;
-            add_addr(&mut out, *replica)?;
-            add(&mut out, "\n")?;
-        }
-    }
+    add_master(&mut out, &group.master)?;
     add_others(&mut out, group, own)?;
     Ok(Text::from_vec(out))
 }

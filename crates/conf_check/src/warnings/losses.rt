@@ -20,12 +20,12 @@ fn sentinel_loss(name: &[u8]) -> Option<&'static str>
 {
     if is_named(name, b"notification-script") {
         return Some(
-            "no script is run here, so nobody is told by it: subscribe to the events of the port",
+            "no script is run here: its companion `sentinel_scripts` calls it, see examples/service",
         );
     }
     if is_named(name, b"client-reconfig-script") {
         return Some(
-            "no script is run here: clients learn a new address from the port, or by +switch-master",
+            "no script is run here: its companion `sentinel_scripts` calls it, see examples/service",
         );
     }
     None

@@ -1,11 +1,11 @@
 //! What is told of a file that is to be one for `watch`, as lines of text.
 
 ghost use Rattle.std.specs.Prelude.{◌≡◌, ◌++◌, ◌<◌, [], IfOk, OnOk, OnErr, codes, decimal, length};
-ghost use Rattle.std.specs.List.{filter, flat_map};
+ghost use Rattle.std.specs.List.{filter, flat_map, list_any};
 ghost use Rattle.ballot_law.specs.Cuts.{lines};
 ghost use Rattle.conf_check.specs.Warnings.Advices.{advices};
 ghost use Rattle.conf_check.specs.Warnings.Losses.{loss_of};
-ghost use Rattle.conf_check.specs.Warnings.WatchWarnings.{named, most_words, clients_words, seconds_words, excess_words, loss_words, known_words, is_refused, watch_words, told_line, watch_warning, is_idle_line, is_idle, comma, add_place, places, lines_have, idle_note, watch_warnings};
+ghost use Rattle.conf_check.specs.Warnings.WatchWarnings.{named, most_words, clients_words, seconds_words, excess_words, loss_words, known_words, is_refused, watch_words, told_line, watch_warning, is_idle_line, is_idle, comma, add_place, places, lines_have, idle_note, is_unelectable, is_alone, alone_words, alone_warning, watch_warnings};
 ghost use Rattle.sentinel_conf.specs.Watch.WatchLines.{watch_line};
 
 use crate::warnings::line_advices::{Advice, AdviceKind, advices};
@@ -282,11 +282,65 @@ fn idle_note(
     Ok(text)
 }
 
+/// Whether the advice says that a quorum is out of reach.
+fn is_unelectable(advice: &Advice) -> bool
+    ensures { result ≡ is_unelectable advice.now }
+{
+    match advice.kind {
+        AdviceKind::QuorumOutOfReach(_) => true,
+        AdviceKind::UnknownDirective | AdviceKind::NoEffect | AdviceKind::ShortDownAfter(_) =>
+            false,
+    }
+}
+
+/// Whether an advice says that a quorum is out of reach.
+fn has_unelectable(told: &[Advice]) -> bool
+    ensures { result ≡ list_any is_unelectable told.now }
+{
+    told.iter().any(|advice| is_unelectable(advice))
+}
+
+/// Whether the file names no other Sentinel, and this one can be elected.
+fn is_alone(sentinels: u64, told: &[Advice]) -> bool
+    ensures { result ≡ is_alone sentinels told.now }
+{
+    sentinels == 1 && !has_unelectable(told)
+}
+
+/// Adds that the file names no other Sentinel.
+fn add_alone(out: &mut Vec<u8>, path: &str) -> Result<(), NoMemory>
+    ensures { OnOk result (out.new.items ≡ out.old.items ++ alone_words path.now) }
+{
+    add(out, "warning: ")?;
+    add(out, path)?;
+    add(
+        out,
+        ": it names no other Sentinel, so this one elects itself: where others watch the same master, name each in all files by `sentinel known-sentinel`\n",
+    )
+}
+
+/// That the file names no other Sentinel, where it is so and this one can be elected; else an empty text.
+fn alone_warning(
+    alloc: Global,
+    path: &str,
+    sentinels: u64,
+    told: &[Advice],
+) -> Result<Vec<u8>, NoMemory>
+    ensures { IfOk result (λ text. text.items ≡ alone_warning path.now sentinels told.now) }
+{
+    let mut text = Vec::new(alloc);
+    if is_alone(sentinels, told) {
+        add_alone(&mut text, path)?;
+    }
+    Ok(text)
+}
+
 /// Adds what the operator of a `watch` is told of its file with these bytes, in a group of `sentinels` Sentinels: first
-/// a line for each warning, as `warning: <path>:<line>: <directive>: ..`, of what isn't done here though somebody may
-/// count on it; then one line, as `note: <path>: 2 lines have no effect here: 5 (dir), 6 (loglevel)`. Nothing is told
-/// of a line that counts for `watch`, nor of one that it refuses, unless no Redis knows its directive; of such a one
-/// only the nearest name is told, since it may be a password. NoMemory: memory was refused, and nothing was added.
+/// that it is alone, where it is and can be elected; then a line for each warning, as `warning: <path>:<line>:
+/// <directive>: ..`, of what isn't done here though somebody may count on it; then one line, as `note: <path>: 2 lines
+/// have no effect here: 5 (dir), 6 (loglevel)`. Nothing is told of a line that counts for `watch`, nor of one that it
+/// refuses, unless no Redis knows its directive; of such a one only the nearest name is told, since it may be a
+/// password. NoMemory: memory was refused, and nothing was added.
 pub fn add_watch_warnings(
     alloc: Global,
     out: &mut Vec<u8>,
@@ -302,7 +356,8 @@ pub fn add_watch_warnings(
 {
     let file = read_lines(alloc, bytes)?;
     let told = advices(alloc, known, sentinels, &file)?;
-    let mut text = warnings_of(alloc, known, sentinels, path, &file, &told)?;
+    let mut text = alone_warning(alloc, path, sentinels, &told)?;
+    text.extend_from_slice(&warnings_of(alloc, known, sentinels, path, &file, &told)?)?;
     let idle = idle_of(alloc, &file, &told)?;
     text.extend_from_slice(&idle_note(alloc, path, &file, &idle)?)?;
     out.extend_from_slice(&text)?;

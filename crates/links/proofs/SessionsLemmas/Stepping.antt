@@ -13,6 +13,7 @@ use Rattle.resp2.specs.Framing.Stream.{Held, reading, bytes_in, held_size}
 use Rattle.resp2.proofs.FramingLemmas.Passing.{spelled_some}
 use Rattle.links.specs.declared.sessions.fault.LinkFault.{LinkFault}
 use Rattle.links.specs.declared.sessions.fault.LinkFault.TheVariants as links
+use Rattle.links.specs.declared.sessions.heard.Heard.{Heard}
 use Rattle.links.specs.declared.sessions.questions.Question.{Question}
 use Rattle.resp2.specs.Long.LongValues.{told_value, IsLongFrame, LongParts, LongAnswers}
 use Rattle.links.specs.Sessions.Links.{next_asked, heard_of, listed, Tells, IsHeard, IsBroken, Because, Receives}
@@ -23,7 +24,7 @@ use Rattle.resp2.proofs.LongLemmas.Values.{value_found}
 module _ (node : NodeName) (listens : Bool) where
   -- after other values one more
   pub tells-push : (asked : List Question) (values : List Frame) (events : List Event) (left : List Question) (value : Frame) (q : Question) (others : List Question) (heard :
-      Option Event)
+      Heard)
       → Tells node listens asked values events left → next_asked listens left ≡ Some (q, others) → heard_of node q (told_value value) ≡ Ok heard
       → Tells node listens asked (values ++ value ∷ []) (events ++ listed heard) others
   tells-push asked [] events left value q others heard a next tells = (

@@ -1,35 +1,46 @@
 -- What is asked of a node over a connection, and what the values that come tell.
-use Rattle.std.specs.Prelude.{◌≡◌, ◌≤◌, length, ℕ, ℤ, pos, negsuc, nat_le, Bool, true, false, ◌&&◌, ◌==◌, List, [], ◌∷◌, ◌++◌, Option, Some, None, Result, Ok, Err, bytes_eq, codes, if◌then◌else◌}
+use Rattle.std.specs.Prelude.{◌≡◌, ◌≤◌, length, ℕ, ℤ, pos, negsuc, nat_le, Bool, true, false, ◌&&◌, ◌==◌, ◌-◌, ◌^◌, List, [], ◌∷◌, ◌++◌, Option, Some, None, Result, Ok, Err, bytes_eq, codes, if◌then◌else◌}
 use Rattle.ballot_law.specs.declared.addresses.Addr.{Addr}
 use Rattle.ballot_law.specs.declared.addresses.RunId.{RunId}
 use Rattle.ballot_law.specs.declared.cards.TheConstants.{MAX_EPOCH}
 use Rattle.ballot_law.specs.declared.events.Event.{Event}
 use Rattle.ballot_law.specs.declared.events.Event.TheVariants.{Answered, Pinged, InfoRead, HelloRead, Refused}
 use Rattle.ballot_law.specs.declared.messages.Body.{Body}
-use Rattle.ballot_law.specs.declared.messages.Body.TheVariants.{Ask, Ping, InfoAsk, HandOver}
+use Rattle.ballot_law.specs.declared.messages.Body.TheVariants.{Ask, Ping, InfoAsk, Publish, ReplicaOf, HandOver}
 use Rattle.ballot_law.specs.declared.messages.NodeName.{NodeName}
 use Rattle.ballot_law.specs.Orders.{same_id}
 use Rattle.ballot_law.specs.PingReplies.{reply_of}
-use Rattle.ballot_law.specs.Words.{then_some, some_if, run_id}
+use Rattle.ballot_law.specs.Words.{then_some, some_if, run_id, number_within}
 use Rattle.node_texts.specs.Messages.MessageTexts.{hello_channel}
-use Rattle.resp2.specs.Commands.{candidate}
+use Rattle.resp2.specs.Commands.{candidate, word}
 use Rattle.resp2.specs.Framing.Frame.{Frame, FrameList, no_frames, frame, simple, fault, int, bulk, items}
 use Rattle.resp2.specs.declared.framing.fault.Unread.TheVariants.{NeedsMore, Faulty}
 use Rattle.links.specs.declared.sessions.conversation.TheConstants.{ASKED_MAX}
 use Rattle.links.specs.declared.sessions.fault.LinkFault.{LinkFault}
 use Rattle.links.specs.declared.sessions.fault.LinkFault.TheVariants.{Strange}
 use Rattle.links.specs.declared.sessions.fault.LinkFault.TheVariants as links
+use Rattle.links.specs.declared.sessions.heard.Heard.{Heard}
+use Rattle.links.specs.declared.sessions.heard.Heard.TheVariants as replies
+use Rattle.links.specs.declared.sessions.heard.Row.{Row}
 use Rattle.links.specs.declared.sessions.questions.Question.{Question}
 use Rattle.links.specs.declared.sessions.questions.Question.TheVariants as asks
 use Rattle.links.specs.declared.sessions.replies.Vote.{Vote}
 use Rattle.resp2.specs.Long.LongValues.{told_value, LongParts, long_frame_at, as_held}
+
+-- who is to follow nobody is promoted
+abbrev pub is_nobody : Option Addr → Bool
+is_nobody None = true
+is_nobody (Some addr) = false
 
 -- what the answer to a message will be about
 abbrev pub question_of : Body → Question
 question_of Ping = asks.Ping
 question_of InfoAsk = asks.Info
 question_of (Ask master addr epoch candidate) = asks.Ask master addr
-question_of (HandOver heir) = asks.HandOver
+question_of (Publish hello) = asks.Publish
+question_of (ReplicaOf to) = asks.Follow (is_nobody to)
+question_of (HandOver None) = asks.Abort
+question_of (HandOver (Some heir)) = asks.HandOver
 question_of _ = asks.Order
 
 -- ---- the answer to the question whether a master is down
@@ -67,42 +78,96 @@ abbrev pub vote_of : Frame → Option Vote
 vote_of (items fs) = votes_of (list_of fs)
 vote_of _ = None
 
--- ---- what a value tells: an event, nothing, or that it is no answer to its question
+-- ---- what a value tells: an event, that its question is refused, a row, nothing, or that it is no answer to its question
 
-abbrev pub ping_heard : NodeName → Frame → Result (Option Event) LinkFault
-ping_heard node (simple text) = Ok (Some (Pinged node (reply_of false text)))
-ping_heard node (fault text) = Ok (Some (Pinged node (reply_of true text)))
+-- the question is refused with this error, which tells the Sentinel nothing else
+abbrev pub refused : Question → (text : List ℕ) → Heard
+refused question text = replies.Refused (record { question = question; text = text; event = None })
+
+-- the question is refused with this error, which tells the Sentinel this
+abbrev pub refused_as : Question → (text : List ℕ) → Event → Heard
+refused_as question text event = replies.Refused (record { question = question; text = text; event = Some event })
+
+-- an answer that tells nothing, unless it is an error
+abbrev pub plain_heard : Question → Frame → Heard
+plain_heard question (fault text) = refused question text
+plain_heard question _ = replies.Nothing
+
+abbrev pub ping_heard : NodeName → Frame → Result Heard LinkFault
+ping_heard node (simple text) = Ok (replies.Told (Pinged node (reply_of false text)))
+ping_heard node (fault text) = Ok (refused_as asks.Ping text (Pinged node (reply_of true text)))
 ping_heard node _ = Err Strange
 
--- an error tells nothing, as while a node loads
-abbrev pub info_heard : NodeName → Frame → Result (Option Event) LinkFault
-info_heard node (bulk text) = Ok (Some (InfoRead node text))
-info_heard node (fault text) = Ok None
+-- an error tells the Sentinel nothing, as while a node loads
+abbrev pub info_heard : NodeName → Frame → Result Heard LinkFault
+info_heard node (bulk text) = Ok (replies.Told (InfoRead node text))
+info_heard node (fault text) = Ok (refused asks.Info text)
 info_heard node _ = Err Strange
 
-abbrev pub answered : NodeName → (master : ℕ) → Addr → Option Vote → Result (Option Event) LinkFault
-answered voter master addr (Some vote) = Ok (Some (Answered voter master addr vote.down vote.leader vote.epoch))
+abbrev pub answered : NodeName → (master : ℕ) → Addr → Option Vote → Result Heard LinkFault
+answered voter master addr (Some vote) = Ok (replies.Told (Answered voter master addr vote.down vote.leader vote.epoch))
 answered voter master addr None = Err Strange
 
 -- the master and the address are those of the question
-abbrev pub ask_heard : NodeName → (master : ℕ) → Addr → Frame → Result (Option Event) LinkFault
-ask_heard voter master addr (fault text) = Ok None
+abbrev pub ask_heard : NodeName → (master : ℕ) → Addr → Frame → Result Heard LinkFault
+ask_heard voter master addr (fault text) = Ok (refused (asks.Ask master addr) text)
 ask_heard voter master addr f = answered voter master addr (vote_of f)
 
 -- who has another run id, or none, is another one than who was asked; an error tells nothing
-abbrev pub named : RunId → Option RunId → Result (Option Event) LinkFault
-named id (Some other) = if same_id id other then Ok None else Err Strange
+abbrev pub named : RunId → Option RunId → Result Heard LinkFault
+named id (Some other) = if same_id id other then Ok replies.Nothing else Err Strange
 named id None = Err Strange
 
-abbrev pub id_heard : RunId → Frame → Result (Option Event) LinkFault
+abbrev pub id_heard : RunId → Frame → Result Heard LinkFault
 id_heard id (bulk text) = named id (run_id text)
-id_heard id (fault text) = Ok None
+id_heard id (fault text) = Ok (refused (asks.Identity id) text)
 id_heard id _ = Err Strange
 
 -- an error tells that the node refuses to hand over
-abbrev pub hand_over_heard : NodeName → Frame → Option Event
-hand_over_heard node (fault text) = Some (Refused node)
-hand_over_heard node _ = None
+abbrev pub hand_over_heard : NodeName → Frame → Heard
+hand_over_heard node (fault text) = refused_as asks.HandOver text (Refused node)
+hand_over_heard node _ = replies.Nothing
+
+-- who refuses the order that promotes it is told of, as who refuses to hand over
+abbrev pub unpromoted : NodeName → (promotes : Bool) → Option Event
+unpromoted node true = Some (Refused node)
+unpromoted node false = None
+
+-- the answer to an order to follow somebody, or nobody
+abbrev pub follow_heard : NodeName → (promotes : Bool) → Frame → Heard
+follow_heard node promotes (fault text) = replies.Refused (record { question = asks.Follow promotes; text = text; event = unpromoted node promotes })
+follow_heard node promotes _ = replies.Nothing
+
+-- the first command of the transaction is the order
+abbrev pub exec_in : NodeName → (promotes : Bool) → List Frame → Heard
+exec_in node promotes [] = replies.Nothing
+exec_in node promotes (first ∷ others) = follow_heard node promotes first
+
+abbrev pub exec_heard : NodeName → (promotes : Bool) → Frame → Heard
+exec_heard node promotes (items fs) = exec_in node promotes (list_of fs)
+exec_heard node promotes (fault text) = refused (asks.Exec promotes) text
+exec_heard node promotes _ = replies.Nothing
+
+-- the number behind the first label with this name, in a row of labels and values
+abbrev pub number_in : (name : List ℕ) → List Frame → Option ℕ
+number_in name (label ∷ value ∷ row) = if bytes_eq (word label) name then number_within 0 (2 ^ 64 - 1) (word value) else number_in name row
+number_in name _ = None
+
+abbrev pub row_in : List Frame → Option Row
+row_in row =
+    then_some (number_in (codes "num-slaves") row) (λ replicas.
+    then_some (number_in (codes "num-other-sentinels") row) (λ others.
+    then_some (number_in (codes "quorum") row) (λ quorum. Some (record { replicas = replicas; others = others; quorum = quorum }))))
+
+abbrev pub told_row : Option Row → Heard
+told_row None = replies.Nothing
+told_row (Some row) = replies.Row row
+
+-- another Sentinel's row of a master; one that lacks a number tells nothing
+abbrev pub row_heard : Frame → Heard
+row_heard (items fs) = told_row (row_in (list_of fs))
+row_heard (fault text) = refused asks.Row text
+row_heard _ = replies.Nothing
 
 abbrev pub is_word : List ℕ → Frame → Bool
 is_word word (bulk bytes) = bytes_eq bytes word
@@ -116,30 +181,55 @@ abbrev pub begins_message : List Frame → Bool
 begins_message (kind ∷ channel ∷ text ∷ []) = is_word (codes "message") kind && is_word hello_channel channel
 begins_message _ = false
 
-abbrev pub hello_in : Frame → Result (Option Event) LinkFault
-hello_in (bulk text) = Ok (Some (HelloRead text))
+abbrev pub hello_in : Frame → Result Heard LinkFault
+hello_in (bulk text) = Ok (replies.Told (HelloRead text))
 hello_in _ = Err Strange
 
-abbrev pub hello_in_list : List Frame → Result (Option Event) LinkFault
+abbrev pub hello_in_list : List Frame → Result Heard LinkFault
 hello_in_list (kind ∷ channel ∷ text ∷ []) = hello_in text
 hello_in_list _ = Err Strange
 
-abbrev pub hello_of_list : List Frame → Result (Option Event) LinkFault
-hello_of_list fs = if is_confirmed fs then Ok None else if begins_message fs then hello_in_list fs else Err Strange
+abbrev pub hello_of_list : List Frame → Result Heard LinkFault
+hello_of_list fs = if is_confirmed fs then Ok replies.Nothing else if begins_message fs then hello_in_list fs else Err Strange
 
 -- a hello that a data node passes on, or that the connection listens to them
-abbrev pub hello_heard : Frame → Result (Option Event) LinkFault
+abbrev pub hello_heard : Frame → Result Heard LinkFault
 hello_heard (items fs) = hello_of_list (list_of fs)
 hello_heard _ = Err Strange
 
-abbrev pub heard_of : NodeName → Question → Frame → Result (Option Event) LinkFault
+abbrev pub heard_of : NodeName → Question → Frame → Result Heard LinkFault
 heard_of node asks.Ping f = ping_heard node f
 heard_of node asks.Info f = info_heard node f
 heard_of node (asks.Ask master addr) f = ask_heard node master addr f
 heard_of node asks.HandOver f = Ok (hand_over_heard node f)
-heard_of node asks.Order f = Ok None
+heard_of node asks.Publish f = Ok (plain_heard asks.Publish f)
+heard_of node (asks.Follow promotes) f = Ok (follow_heard node promotes f)
+heard_of node (asks.Exec promotes) f = Ok (exec_heard node promotes f)
+heard_of node asks.Abort f = Ok replies.Nothing
+heard_of node asks.Row f = Ok (row_heard f)
+heard_of node asks.Order f = Ok (plain_heard asks.Order f)
 heard_of node (asks.Identity id) f = id_heard id f
 heard_of node asks.Hello f = hello_heard f
+
+-- ---- the events among what is heard
+
+abbrev pub event_list : Option Event → List Event
+event_list None = []
+event_list (Some event) = event ∷ []
+
+abbrev pub listed : Heard → List Event
+listed (replies.Told event) = event ∷ []
+listed (replies.Refused refusal) = event_list refusal.event
+listed (replies.Row row) = []
+listed replies.Nothing = []
+
+abbrev pub events_in : List Heard → List Event
+events_in [] = []
+events_in (heard ∷ more) = listed heard ++ events_in more
+
+-- what was heard before stays, and more may come behind it
+abbrev pub Grows : (before after : List Heard) → Type 0
+Grows before after = (more : List Heard) × (after ≡ before ++ more)
 
 -- ---- one connection
 
@@ -166,15 +256,16 @@ next_asked listens (question ∷ asked) = Some (question, asked)
 next_asked true [] = Some (asks.Hello, [])
 next_asked false [] = None
 
-abbrev pub listed : Option Event → List Event
-listed None = []
-listed (Some event) = event ∷ []
+-- a hello is the oldest question that waits for its answer
+abbrev pub owes_hello : List Question → Bool
+owes_hello (asks.Publish ∷ asked) = true
+owes_hello _ = false
 
 -- the values, in their order, answer the oldest questions, and what is told of them tells these events; the other questions are left
 abbrev pub Tells : NodeName → Bool → List Question → List Frame → List Event → List Question → Type 0
 Tells node listens asked [] events left = (events ≡ []) × (left ≡ asked)
 Tells node listens asked (value ∷ values) events left =
-    (question : Question) × (others : List Question) × (heard : Option Event) × (rest : List Event)
+    (question : Question) × (others : List Question) × (heard : Heard) × (rest : List Event)
     × (next_asked listens asked ≡ Some (question, others)) × (heard_of node question (told_value value) ≡ Ok heard)
     × (events ≡ listed heard ++ rest) × Tells node listens others values rest left
 

@@ -1,5 +1,5 @@
 -- What holds within the taking of a piece.
-use Rattle.std.specs.Prelude.{◌≡◌, ℕ, Bool, true, false, List, ◌++◌, Option, Some, None, Result, Ok, Err}
+use Rattle.std.specs.Prelude.{◌≡◌, ℕ, Bool, true, false, List, ◌++◌, Some, None, Result, Ok, Err}
 use Rattle.ballot_law.specs.declared.events.Event.{Event}
 use Rattle.ballot_law.specs.declared.messages.NodeName.{NodeName}
 use Rattle.resp2.specs.Framing.Frame.{Frame}
@@ -8,6 +8,7 @@ use Rattle.resp2.specs.declared.framing.fault.FrameFault.{FrameFault}
 use Rattle.resp2.specs.declared.framing.fault.FrameFault.TheVariants as frames
 use Rattle.links.specs.declared.sessions.fault.LinkFault.{LinkFault}
 use Rattle.links.specs.declared.sessions.fault.LinkFault.TheVariants as links
+use Rattle.links.specs.declared.sessions.heard.Heard.{Heard}
 use Rattle.links.specs.declared.sessions.questions.Question.{Question}
 use Rattle.resp2.specs.Long.LongValues.{LongParts}
 use Rattle.links.specs.Sessions.Links.{next_asked, heard_of, listed, Tells, IsHeard, IsBroken}
@@ -15,7 +16,7 @@ use Rattle.links.specs.Sessions.Links.{next_asked, heard_of, listed, Tells, IsHe
 -- one value told what it tells
 pub record Told (node : NodeName) (listens : Bool) (asked : List Question) (value : Frame) (before after : List Event) (left : List Question) : Type 0 where
   pub question : Question
-  pub heard : Option Event
+  pub heard : Heard
   pub next : next_asked listens asked ≡ Some (question, left)
   pub tells : heard_of node question value ≡ Ok heard
   pub added : after ≡ before ++ listed heard

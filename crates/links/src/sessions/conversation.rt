@@ -1,19 +1,20 @@
 //! What was asked over a connection, what came, and what isn't sent yet.
 
-ghost use Rattle.std.specs.Prelude.{◌≡◌, ◌↔◌, ◌≤◌, ◌<◌, ◌++◌, ◌∷◌, ℕ, List, [], codes, map, length, drop, IsTrue, IsFalse, IfOk, IfErr, IfSome, IfNone, None, OnOk, OnErr};
+ghost use Rattle.std.specs.Prelude.{◌≡◌, ◌↔◌, ◌≤◌, ◌<◌, ◌++◌, ◌∷◌, ℕ, List, [], map, length, drop, IsTrue, IsFalse, IfOk, IfErr, IfSome, IfNone, None, OnOk, OnErr};
 ghost use Rattle.ballot_law.specs.declared.events.Event.{Event};
 ghost use Rattle.node_texts.specs.Messages.MessageTexts.{message_bytes, words_frame, IsWritable};
 ghost use Rattle.resp2.specs.Framing.Frame.{view, spelling};
 ghost use Rattle.resp2.specs.Framing.Stream.{reading, held_size, bytes_in};
 ghost use Rattle.links.specs.declared.sessions.questions.Question.{Question};
-ghost use Rattle.links.specs.Sessions.Links.{next_asked, listed, question_of, IsRefused, Receives};
+ghost use Rattle.links.specs.Sessions.Links.{next_asked, listed, events_in, Grows, owes_hello, question_of, IsRefused, Receives};
 ghost use Rattle.links.specs.Speaking.{ack_bytes};
 ghost use Rattle.links.specs.Sessions.OnTheWay.{IsOnTheWay, Steps, Drains, Told, Untold, closed_by};
 
 use crate::sessions::fault::LinkFault;
+use crate::sessions::heard::Heard;
 use crate::sessions::questions::{Question, question_of};
 use crate::sessions::replies::heard_of;
-use ballot_law::{Event, Message, NoMemory, NodeName, RunId};
+use ballot_law::{Message, NoMemory, NodeName};
 use bytes::BytesMut;
 use node_texts::message_text;
 use resp2::{FrameFault, LongFrames, OutText, Value, push_words};
@@ -36,17 +37,28 @@ pub(crate) struct Conversation {
 }
 
 /// Adds what a value tells.
-fn add_heard(events: &mut Vec<Event>, heard: Option<Event>) -> Result<(), LinkFault>
-    ensures ok { OnOk result (events.new.items ≡ events.old.items ++ listed heard) }
-    ensures err { OnErr result (events.new.items ≡ events.old.items) }
+fn push_heard(all: &mut Vec<Heard>, heard: Heard) -> Result<(), LinkFault>
+    ensures ok { OnOk result (all.new.items ≡ all.old.items ++ heard ∷ []) }
+    ensures err { OnErr result (all.new.items ≡ all.old.items) }
+    ensures fault { IfErr result (λ fault. fault ≡ LinkFault.NoMemory) }
+{
+    match all.push(heard) {
+        Ok(()) => Ok(()),
+        Err(_) => Err(LinkFault::NoMemory),
+    }
+}
+
+/// Adds what a value tells, unless that is nothing.
+#[tactic(auto, using(crate::proofs::SessionsLemmas::Counts::pushed_events, crate::proofs::SessionsLemmas::Counts::pushed_grows, crate::proofs::SessionsLemmas::Counts::grows_none, crate::proofs::SessionsLemmas::Counts::nothing_told))]
+fn add_heard(all: &mut Vec<Heard>, heard: Heard) -> Result<(), LinkFault>
+    ensures ok { OnOk result (events_in all.new.items ≡ events_in all.old.items ++ listed heard) }
+    ensures err { OnErr result (all.new.items ≡ all.old.items) }
+    ensures grows { Grows all.old.items all.new.items }
     ensures fault { IfErr result (λ fault. fault ≡ LinkFault.NoMemory) }
 {
     match heard {
-        None => Ok(()),
-        Some(event) => match events.push(event) {
-            Ok(()) => Ok(()),
-            Err(_) => Err(LinkFault::NoMemory),
-        },
+        Heard::Nothing => Ok(()),
+        heard => push_heard(all, heard),
     }
 }
 
@@ -92,6 +104,23 @@ impl Conversation {
         ensures { IsTrue result ↔ (0 < length self.now.asked.items) }
     {
         !self.asked.is_empty()
+    }
+
+    /// How many answers are awaited.
+    pub(crate) fn owed(&self) -> usize
+        ensures { result ≡ length self.now.asked.items }
+    {
+        self.asked.len()
+    }
+
+    /// Whether the answer to a hello is awaited, and before all others.
+    pub(crate) fn owes_hello(&self) -> bool
+        ensures { result ≡ owes_hello self.now.asked.items }
+    {
+        match self.asked.front() {
+            Some(Question::Publish) => true,
+            _ => false,
+        }
     }
 
     /// Takes the first `n` bytes of them away.
@@ -150,13 +179,13 @@ impl Conversation {
         self.put_out(&text, question_of(&message.body))
     }
 
-    /// Puts out a command whose answer tells nothing, or changes nothing.
-    pub(crate) fn order(&mut self, words: &[&[u8]]) -> Result<(), LinkFault>
+    /// Puts out a command of these words, and remembers what its answer will be about, or changes nothing.
+    pub(crate) fn command(&mut self, words: &[&[u8]], question: Question) -> Result<(), LinkFault>
         ensures node { self.new.node ≡ self.old.node }
         ensures listens { self.new.listens ≡ self.old.listens }
         ensures frames { self.new.frames ≡ self.old.frames }
         ensures ok { OnOk result ((self.new.unsent.items ≡ self.old.unsent.items ++ spelling (words_frame (map (λ word. word.now) words.now)))
-            × (self.new.asked.items ≡ self.old.asked.items ++ Question.Order ∷ [])) }
+            × (self.new.asked.items ≡ self.old.asked.items ++ question ∷ [])) }
         ensures few { OnOk result (length self.new.asked.items ≤ ASKED_MAX) }
         ensures err { OnErr result ((self.new.unsent.items ≡ self.old.unsent.items) × (self.new.asked.items ≡ self.old.asked.items)) }
         ensures fault { IfErr result (IsRefused self.old.asked.items) }
@@ -165,7 +194,7 @@ impl Conversation {
         if push_words(&mut text, words).is_err() {
             return Err(LinkFault::NoMemory);
         }
-        self.put_out(&text, Question::Order)
+        self.put_out(&text, question)
     }
 
     /// Puts out that a replica is to acknowledge at once what it has of its master's stream, or changes nothing. One
@@ -187,24 +216,6 @@ impl Conversation {
         self.put_out(&text, Question::Order)
     }
 
-    /// Puts out the question for the run id of a Sentinel that is to have this one, or changes nothing.
-    pub(crate) fn ask_id(&mut self, id: RunId) -> Result<(), LinkFault>
-        ensures node { self.new.node ≡ self.old.node }
-        ensures listens { self.new.listens ≡ self.old.listens }
-        ensures frames { self.new.frames ≡ self.old.frames }
-        ensures ok { OnOk result ((self.new.unsent.items ≡ self.old.unsent.items ++ spelling (words_frame (codes "SENTINEL" ∷ codes "MYID" ∷ [])))
-            × (self.new.asked.items ≡ self.old.asked.items ++ Question.Identity id ∷ [])) }
-        ensures few { OnOk result (length self.new.asked.items ≤ ASKED_MAX) }
-        ensures err { OnErr result ((self.new.unsent.items ≡ self.old.unsent.items) × (self.new.asked.items ≡ self.old.asked.items)) }
-        ensures fault { IfErr result (IsRefused self.old.asked.items) }
-    {
-        let mut text = OutText::new(self.alloc);
-        if push_words(&mut text, &[b"SENTINEL", b"MYID"]).is_err() {
-            return Err(LinkFault::NoMemory);
-        }
-        self.put_out(&text, Question::Identity { id })
-    }
-
     /// What the next value answers.
     fn next_question(&mut self) -> Option<Question>
         ensures node { self.new.node ≡ self.old.node }
@@ -224,26 +235,29 @@ impl Conversation {
     }
 
     /// Adds what a value tells that answers the oldest question.
-    fn hear_value(&mut self, value: Value, events: &mut Vec<Event>) -> Result<(), LinkFault>
+    #[tactic(auto, using(crate::proofs::SessionsLemmas::Counts::grows_none, crate::proofs::SessionsLemmas::Counts::grows_twice))]
+    fn hear_value(&mut self, value: Value, heard: &mut Vec<Heard>) -> Result<(), LinkFault>
         ensures node { self.new.node ≡ self.old.node }
         ensures listens { self.new.listens ≡ self.old.listens }
         ensures frames { self.new.frames ≡ self.old.frames }
         ensures unsent { self.new.unsent.items ≡ self.old.unsent.items }
-        ensures told { OnOk result (Told self.old.node self.old.listens self.old.asked.items (view value) events.old.items events.new.items self.new.asked.items) }
-        ensures untold { OnErr result (events.new.items ≡ events.old.items) }
+        ensures told { OnOk result (Told self.old.node self.old.listens self.old.asked.items (view value) (events_in heard.old.items) (events_in heard.new.items) self.new.asked.items) }
+        ensures untold { OnErr result (events_in heard.new.items ≡ events_in heard.old.items) }
+        ensures grows { Grows heard.old.items heard.new.items }
         ensures why { IfErr result (Untold self.old.node self.old.listens self.old.asked.items (view value)) }
     {
         let Some(question) = self.next_question() else {
             return Err(LinkFault::Unasked);
         };
         match heard_of(self.node, question, value) {
-            Ok(heard) => add_heard(events, heard),
+            Ok(told) => add_heard(heard, told),
             Err(fault) => Err(fault),
         }
     }
 
     /// Hears the first value that is whole, and tells whether there was one.
-    fn hear_next(&mut self, events: &mut Vec<Event>) -> Result<bool, LinkFault>
+    #[tactic(auto, using(crate::proofs::SessionsLemmas::Counts::grows_none, crate::proofs::SessionsLemmas::Counts::grows_twice))]
+    fn hear_next(&mut self, heard: &mut Vec<Heard>) -> Result<bool, LinkFault>
         requires open { self.old.frames.held ≡ reading (bytes_in self.old.frames.held) }
         ensures node { self.new.node ≡ self.old.node }
         ensures listens { self.new.listens ≡ self.old.listens }
@@ -251,9 +265,10 @@ impl Conversation {
         ensures open { OnOk result (self.new.frames.held ≡ reading (bytes_in self.new.frames.held)) }
         ensures smaller { IfOk result (λ more. IsTrue more → held_size self.new.frames.held < held_size self.old.frames.held) }
         ensures memory { IfOk result (λ more. IsFalse more → self.new.frames.memory ≤ 65537) }
-        ensures heard { (stream : List ℕ) (asked : List Question) (before so_far : List Event) → events.old.items ≡ before ++ so_far
+        ensures grows { Grows heard.old.items heard.new.items }
+        ensures heard { (stream : List ℕ) (asked : List Question) (before so_far : List Event) → events_in heard.old.items ≡ before ++ so_far
             → IsOnTheWay self.old.node self.old.listens asked stream self.old.frames.held so_far self.old.asked.items
-            → (more : List Event) × (events.new.items ≡ before ++ more)
+            → (more : List Event) × (events_in heard.new.items ≡ before ++ more)
             × Steps self.old.node self.old.listens asked stream result self.new.frames.held more self.new.asked.items }
     {
         let value = match self.frames.next() {
@@ -261,27 +276,29 @@ impl Conversation {
             Ok(None) => return Ok(false),
             Err(fault) => return Err(fault_of(fault)),
         };
-        match self.hear_value(value, events) {
+        match self.hear_value(value, heard) {
             Ok(()) => Ok(true),
             Err(fault) => Err(fault),
         }
     }
 
     /// Hears each value that is whole.
-    fn hear_whole(&mut self, events: &mut Vec<Event>) -> Result<(), LinkFault>
+    #[tactic(auto, using(crate::proofs::SessionsLemmas::Counts::grows_none, crate::proofs::SessionsLemmas::Counts::grows_twice))]
+    fn hear_whole(&mut self, heard: &mut Vec<Heard>) -> Result<(), LinkFault>
         requires open { self.old.frames.held ≡ reading (bytes_in self.old.frames.held) }
         ensures node { self.new.node ≡ self.old.node }
         ensures listens { self.new.listens ≡ self.old.listens }
         ensures unsent { self.new.unsent.items ≡ self.old.unsent.items }
         ensures open { OnOk result (self.new.frames.held ≡ reading (bytes_in self.new.frames.held)) }
         ensures memory { OnOk result (self.new.frames.memory ≤ 65537) }
-        ensures heard { (stream : List ℕ) (asked : List Question) (before so_far : List Event) → events.old.items ≡ before ++ so_far
+        ensures grows { Grows heard.old.items heard.new.items }
+        ensures heard { (stream : List ℕ) (asked : List Question) (before so_far : List Event) → events_in heard.old.items ≡ before ++ so_far
             → IsOnTheWay self.old.node self.old.listens asked stream self.old.frames.held so_far self.old.asked.items
-            → (more : List Event) × (events.new.items ≡ before ++ more)
+            → (more : List Event) × (events_in heard.new.items ≡ before ++ more)
             × Drains self.old.node self.old.listens asked stream result self.new.frames.held more self.new.asked.items }
     {
         loop {
-            match self.hear_next(events) {
+            match self.hear_next(heard) {
                 Ok(true) => {}
                 Ok(false) => return Ok(()),
                 Err(fault) => return Err(fault),
@@ -290,10 +307,11 @@ impl Conversation {
     }
 
     /// Takes the next piece, and hears the values that are whole with it.
+    #[tactic(auto, using(crate::proofs::SessionsLemmas::Counts::grows_none, crate::proofs::SessionsLemmas::Counts::grows_twice))]
     pub(crate) fn take_piece(
         &mut self,
         piece: &[u8],
-        events: &mut Vec<Event>,
+        heard: &mut Vec<Heard>,
     ) -> Result<(), LinkFault>
         requires open { self.old.frames.held ≡ reading (bytes_in self.old.frames.held) }
         ensures node { self.new.node ≡ self.old.node }
@@ -301,13 +319,14 @@ impl Conversation {
         ensures unsent { self.new.unsent.items ≡ self.old.unsent.items }
         ensures open { OnOk result (self.new.frames.held ≡ reading (bytes_in self.new.frames.held)) }
         ensures memory { OnOk result (self.new.frames.memory ≤ 65537) }
-        ensures received { (more : List Event) × (events.new.items ≡ events.old.items ++ more)
+        ensures grows { Grows heard.old.items heard.new.items }
+        ensures received { (more : List Event) × (events_in heard.new.items ≡ events_in heard.old.items ++ more)
             × Receives self.old.node self.old.listens self.old.asked.items (bytes_in self.old.frames.held ++ piece.now) result more self.new.asked.items (bytes_in self.new.frames.held) }
     {
         if self.frames.feed(piece).is_err() {
             return Err(LinkFault::NoMemory);
         }
-        self.hear_whole(events)
+        self.hear_whole(heard)
     }
 
     /// Drops what came, what is asked and what isn't sent.

@@ -5,12 +5,14 @@ ghost use Rattle.ballot_law.specs.declared.events.Event.{Event};
 ghost use Rattle.node_texts.specs.Messages.MessageTexts.{message_bytes, words_frame, IsWritable};
 ghost use Rattle.resp2.specs.Framing.Frame.{spelling};
 ghost use Rattle.links.specs.declared.sessions.questions.Question.TheVariants as asks;
-ghost use Rattle.links.specs.Sessions.Links.{question_of, IsRefused, Receives};
+ghost use Rattle.links.specs.Sessions.Links.{question_of, events_in, Grows, owes_hello, IsRefused, Receives};
 ghost use Rattle.links.specs.Speaking.{ack_bytes};
 
 use crate::sessions::conversation::{ASKED_MAX, Conversation};
 use crate::sessions::fault::LinkFault;
-use ballot_law::{Event, Message, NodeName, RunId};
+use crate::sessions::heard::Heard;
+use crate::sessions::questions::Question;
+use ballot_law::{Message, NodeName, RunId};
 use resp2::HELD_MAX;
 use std::alloc::Global;
 use std::marker::Model;
@@ -80,7 +82,22 @@ impl LinkSession {
         self.talk.ask(message)
     }
 
-    /// Puts out a command of these words whose answer tells nothing. A refusal, as of `ask`, changes nothing.
+    /// Puts out a command of these words, and remembers what its answer will be about. A refusal, as of `ask`, changes
+    /// nothing.
+    pub(crate) fn command(&mut self, words: &[&[u8]], question: Question) -> Result<(), LinkFault>
+        ensures ok { OnOk result (self.new ≡ record self.old {
+          unsent = self.old.unsent ++ spelling (words_frame (map (λ word. word.now) words.now));
+          asked = self.old.asked ++ question ∷ [];
+        }) }
+        ensures few { OnOk result (length self.new.asked ≤ ASKED_MAX) }
+        ensures err { OnErr result (self.new ≡ self.old) }
+        ensures fault { IfErr result (IsRefused self.old.asked) }
+    {
+        self.talk.command(words, question)
+    }
+
+    /// Puts out a command of these words whose answer tells nothing, unless it is an error. A refusal, as of `ask`,
+    /// changes nothing.
     pub fn order(&mut self, words: &[&[u8]]) -> Result<(), LinkFault>
         ensures ok { OnOk result (self.new ≡ record self.old {
           unsent = self.old.unsent ++ spelling (words_frame (map (λ word. word.now) words.now));
@@ -90,7 +107,7 @@ impl LinkSession {
         ensures err { OnErr result (self.new ≡ self.old) }
         ensures fault { IfErr result (IsRefused self.old.asked) }
     {
-        self.talk.order(words)
+        self.talk.command(words, Question::Order)
     }
 
     /// Puts out that a replica is to acknowledge at once what it has of its master's stream. One answer comes, which
@@ -117,7 +134,8 @@ impl LinkSession {
         ensures err { OnErr result (self.new ≡ self.old) }
         ensures fault { IfErr result (IsRefused self.old.asked) }
     {
-        self.talk.ask_id(id)
+        self.talk
+            .command(&[b"SENTINEL", b"MYID"], Question::Identity { id })
     }
 
     /// The bytes that aren't sent yet.
@@ -134,6 +152,20 @@ impl LinkSession {
         self.talk.is_waiting()
     }
 
+    /// How many answers are awaited.
+    pub(crate) fn owed(&self) -> usize
+        ensures { result ≡ length self.now.asked }
+    {
+        self.talk.owed()
+    }
+
+    /// Whether the answer to a hello is awaited, and before all others.
+    pub(crate) fn owes_hello(&self) -> bool
+        ensures { result ≡ owes_hello self.now.asked }
+    {
+        self.talk.owes_hello()
+    }
+
     /// Takes away the first `n` bytes of what isn't sent yet, which the connection took.
     pub fn sent(&mut self, n: usize)
         requires { n ≤ length self.old.unsent }
@@ -147,28 +179,31 @@ impl LinkSession {
     ///
     /// A value answers the oldest question: a PING's is `Pinged`, an INFO's `InfoRead`, and the answer to the question
     /// whether a master is down is `Answered` with the master and the address of that question; the answers to other
-    /// messages tell nothing, and so does an error in answer to an INFO, to such a question, or to that for a run id.
-    /// On a connection that listens each value after the answers is a hello that a data node passes on.
+    /// messages tell nothing. An error refuses its question: the Sentinel is told of it in answer to a PING, to an
+    /// order to hand over, and to the order that promotes its node. On a connection that listens each value after the
+    /// answers is a hello that a data node passes on.
     ///
     /// `Unread` where the bytes are no RESP2, `Unasked` and `Strange` where a value answers no question or not its own,
     /// as where a Sentinel names another run id than it is to have, and `NoMemory`: what the values before told was
     /// added, and nothing else. From then on the session answers the same fault for good and has nothing; the caller
     /// opens the connection anew.
-    pub fn received(&mut self, piece: &[u8], events: &mut Vec<Event>) -> Result<(), LinkFault>
-        ensures received { self.old.ended ≡ None → (more : List Event) × (events.new.items ≡ events.old.items ++ more)
+    #[tactic(auto, using(crate::proofs::SessionsLemmas::Counts::grows_none, crate::proofs::SessionsLemmas::Counts::grows_twice))]
+    pub fn received(&mut self, piece: &[u8], heard: &mut Vec<Heard>) -> Result<(), LinkFault>
+        ensures received { self.old.ended ≡ None → (more : List Event) × (events_in heard.new.items ≡ events_in heard.old.items ++ more)
             × Receives self.old.node self.old.listens self.old.asked (self.old.held ++ piece.now) result more self.new.asked self.new.held }
+        ensures grows { Grows heard.old.items heard.new.items }
         ensures unsent { OnOk result (self.new.unsent ≡ self.old.unsent) }
         ensures node { self.new.node ≡ self.old.node }
         ensures listens { self.new.listens ≡ self.old.listens }
         ensures kept { OnOk result (self.new.kept ≤ HELD_MAX) }
         ensures open { OnOk result (self.new.ended ≡ None) }
         ensures closed { IfErr result (λ fault. self.new.ended ≡ Some fault) }
-        ensures ended { IfSome self.old.ended (λ fault. (result ≡ Err fault) × (self.new ≡ self.old) × (events.new ≡ events.old)) }
+        ensures ended { IfSome self.old.ended (λ fault. (result ≡ Err fault) × (self.new ≡ self.old) × (heard.new ≡ heard.old)) }
     {
         if let Some(fault) = self.fault {
             return Err(fault);
         }
-        match self.talk.take_piece(piece, events) {
+        match self.talk.take_piece(piece, heard) {
             Ok(()) => Ok(()),
             Err(fault) => {
                 self.talk.drop_all();

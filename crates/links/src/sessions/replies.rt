@@ -1,15 +1,17 @@
 //! What a reply tells.
 
-ghost use Rattle.std.specs.Prelude.{◌≡◌, map};
+ghost use Rattle.std.specs.Prelude.{◌≡◌, map, None, Some};
 ghost use Rattle.resp2.specs.Commands as commands;
 ghost use Rattle.resp2.specs.Framing.Frame.{view, frames_view};
-ghost use Rattle.links.specs.Sessions.Links.{is_down, epoch_of, leader_of, vote_of, votes_of, ping_heard, info_heard, ask_heard, hand_over_heard, named, id_heard, heard_of, is_word, is_confirmed, begins_message, hello_of_list, hello_heard};
+ghost use Rattle.links.specs.declared.sessions.heard.Heard.TheVariants as replies;
+ghost use Rattle.links.specs.Sessions.Links.{is_down, epoch_of, leader_of, votes_of, refused, refused_as, plain_heard, ping_heard, info_heard, answered, ask_heard, hand_over_heard, unpromoted, follow_heard, exec_in, exec_heard, number_in, row_in, told_row, row_heard, named, id_heard, heard_of, is_word, is_confirmed, begins_message, hello_of_list, hello_heard};
 
 use crate::sessions::fault::LinkFault;
+use crate::sessions::heard::{Heard, Refusal, Row};
 use crate::sessions::questions::Question;
-use ballot_law::{Addr, Event, MAX_EPOCH, NodeName, PingReply, RunId};
-use resp2::Value;
-use tokens::run_id_of;
+use ballot_law::{Addr, Event, MAX_EPOCH, NodeName, PingReply, RunId, Text};
+use resp2::{Value, word_of};
+use tokens::{number_of, run_id_of};
 
 /// The channel on which Sentinels publish their hellos.
 pub(crate) const HELLO_CHANNEL: &[u8] = b"__sentinel__:hello";
@@ -81,53 +83,78 @@ fn votes_of(items: &[Value]) -> Option<Vote>
     })
 }
 
-/// What an answer to the question whether a master is down says.
-fn vote_of(value: &Value) -> Option<Vote>
-    ensures { result ≡ vote_of (view value.now) }
+/// The question is refused with this error, which tells the Sentinel nothing else.
+fn refused(question: Question, text: Text) -> Heard
+    ensures { result ≡ refused question text }
+{
+    Heard::Refused(Refusal {
+        question,
+        text,
+        event: None,
+    })
+}
+
+/// The question is refused with this error, which tells the Sentinel this.
+fn refused_as(question: Question, text: Text, event: Event) -> Heard
+    ensures { result ≡ refused_as question text event }
+{
+    Heard::Refused(Refusal {
+        question,
+        text,
+        event: Some(event),
+    })
+}
+
+/// What an answer tells that tells nothing, unless it is an error.
+fn plain_heard(question: Question, value: Value) -> Heard
+    ensures { result ≡ plain_heard question (view value) }
 {
     match value {
-        Value::Items(items) => votes_of(items.as_slice()),
-        _ => None,
+        Value::Fault(text) => refused(question, text),
+        _ => Heard::Nothing,
     }
 }
 
 /// What the answer to a PING tells.
-fn ping_heard(node: NodeName, value: &Value) -> Result<Option<Event>, LinkFault>
-    ensures { result ≡ ping_heard node (view value.now) }
-{
-    let reply = match value {
-        Value::Simple(text) => PingReply::of(false, text.as_slice()),
-        Value::Fault(text) => PingReply::of(true, text.as_slice()),
-        _ => return Err(LinkFault::Strange),
-    };
-    Ok(Some(Event::Pinged { node, reply }))
-}
-
-/// What the answer to an INFO tells; an error tells nothing, as while a node loads.
-fn info_heard(node: NodeName, value: Value) -> Result<Option<Event>, LinkFault>
-    ensures { result ≡ info_heard node (view value) }
+fn ping_heard(node: NodeName, value: Value) -> Result<Heard, LinkFault>
+    ensures { result ≡ ping_heard node (view value) }
 {
     match value {
-        Value::Bulk(text) => Ok(Some(Event::InfoRead { node, text })),
-        Value::Fault(_) => Ok(None),
+        Value::Simple(text) => {
+            let reply = PingReply::of(false, text.as_slice());
+            Ok(Heard::Told(Event::Pinged { node, reply }))
+        }
+        Value::Fault(text) => {
+            let reply = PingReply::of(true, text.as_slice());
+            let event = Event::Pinged { node, reply };
+            Ok(refused_as(Question::Ping, text, event))
+        }
         _ => Err(LinkFault::Strange),
     }
 }
 
-/// What the answer to the question whether this master is down tells; an error tells nothing.
-fn ask_heard(
+/// What the answer to an INFO tells; an error tells the Sentinel nothing, as while a node loads.
+fn info_heard(node: NodeName, value: Value) -> Result<Heard, LinkFault>
+    ensures { result ≡ info_heard node (view value) }
+{
+    match value {
+        Value::Bulk(text) => Ok(Heard::Told(Event::InfoRead { node, text })),
+        Value::Fault(text) => Ok(refused(Question::Info, text)),
+        _ => Err(LinkFault::Strange),
+    }
+}
+
+/// What a vote tells in answer to the question whether this master is down.
+fn answered(
     voter: NodeName,
     master: u16,
     addr: Addr,
-    value: &Value,
-) -> Result<Option<Event>, LinkFault>
-    ensures { result ≡ ask_heard voter master addr (view value.now) }
+    vote: Option<Vote>,
+) -> Result<Heard, LinkFault>
+    ensures { result ≡ answered voter master addr vote }
 {
-    if let Value::Fault(_) = value {
-        return Ok(None);
-    }
-    match vote_of(value) {
-        Some(vote) => Ok(Some(Event::Answered {
+    match vote {
+        Some(vote) => Ok(Heard::Told(Event::Answered {
             voter,
             master,
             addr,
@@ -139,14 +166,25 @@ fn ask_heard(
     }
 }
 
+/// What the answer to the question whether this master is down tells; an error tells the Sentinel nothing.
+fn ask_heard(voter: NodeName, master: u16, addr: Addr, value: Value) -> Result<Heard, LinkFault>
+    ensures { result ≡ ask_heard voter master addr (view value) }
+{
+    match value {
+        Value::Items(items) => answered(voter, master, addr, votes_of(items.as_slice())),
+        Value::Fault(text) => Ok(refused(Question::Ask { master, addr }, text)),
+        _ => Err(LinkFault::Strange),
+    }
+}
+
 /// What it tells that a Sentinel which is to have this run id has that one, or none.
-fn named(id: RunId, other: Option<RunId>) -> Result<Option<Event>, LinkFault>
+fn named(id: RunId, other: Option<RunId>) -> Result<Heard, LinkFault>
     ensures { result ≡ named id other }
 {
     match other {
         Some(other) => {
             if id.is_same(&other) {
-                Ok(None)
+                Ok(Heard::Nothing)
             } else {
                 Err(LinkFault::Strange)
             }
@@ -155,25 +193,121 @@ fn named(id: RunId, other: Option<RunId>) -> Result<Option<Event>, LinkFault>
     }
 }
 
-/// What the answer to SENTINEL MYID tells, of a Sentinel that is to have this run id; an error tells nothing.
-fn id_heard(id: RunId, value: &Value) -> Result<Option<Event>, LinkFault>
-    ensures { result ≡ id_heard id (view value.now) }
+/// What the answer to SENTINEL MYID tells, of a Sentinel that is to have this run id; an error tells the Sentinel
+/// nothing.
+fn id_heard(id: RunId, value: Value) -> Result<Heard, LinkFault>
+    ensures { result ≡ id_heard id (view value) }
 {
     match value {
         Value::Bulk(text) => named(id, run_id_of(text.as_slice())),
-        Value::Fault(_) => Ok(None),
+        Value::Fault(text) => Ok(refused(Question::Identity { id }, text)),
         Value::Simple(_) | Value::Int(_) | Value::Items(_) => Err(LinkFault::Strange),
         Value::NullBulk | Value::NullItems => Err(LinkFault::Strange),
     }
 }
 
-/// What the answer to an order to hand over tells: that the node refuses, where it is an error.
-fn hand_over_heard(node: NodeName, value: &Value) -> Option<Event>
-    ensures { result ≡ hand_over_heard node (view value.now) }
+/// What the answer to an order to hand over tells: that the node refuses, if it is an error.
+fn hand_over_heard(node: NodeName, value: Value) -> Heard
+    ensures { result ≡ hand_over_heard node (view value) }
 {
     match value {
-        Value::Fault(_) => Some(Event::Refused { node }),
-        _ => None,
+        Value::Fault(text) => refused_as(Question::HandOver, text, Event::Refused { node }),
+        _ => Heard::Nothing,
+    }
+}
+
+/// What it tells that a node refuses an order to follow somebody: something where the order promotes it.
+fn unpromoted(node: NodeName, promotes: bool) -> Option<Event>
+    ensures { result ≡ unpromoted node promotes }
+{
+    if promotes {
+        Some(Event::Refused { node })
+    } else {
+        None
+    }
+}
+
+/// What the answer to an order to follow somebody tells: that the node refuses, if it is an error.
+fn follow_heard(node: NodeName, promotes: bool, value: Value) -> Heard
+    ensures { result ≡ follow_heard node promotes (view value) }
+{
+    match value {
+        Value::Fault(text) => Heard::Refused(Refusal {
+            question: Question::Follow { promotes },
+            text,
+            event: unpromoted(node, promotes),
+        }),
+        _ => Heard::Nothing,
+    }
+}
+
+/// What the answers to the commands of a transaction tell, whose first one is the order.
+fn exec_in(node: NodeName, promotes: bool, items: Vec<Value>) -> Heard
+    ensures { result ≡ exec_in node promotes (map view items.items) }
+{
+    match items.into_iter().next() {
+        Some(first) => follow_heard(node, promotes, first),
+        None => Heard::Nothing,
+    }
+}
+
+/// What the answer to EXEC tells.
+fn exec_heard(node: NodeName, promotes: bool, value: Value) -> Heard
+    ensures { result ≡ exec_heard node promotes (view value) }
+{
+    match value {
+        Value::Items(items) => exec_in(node, promotes, items),
+        Value::Fault(text) => refused(Question::Exec { promotes }, text),
+        _ => Heard::Nothing,
+    }
+}
+
+/// The number behind the first label with this name, in a row of labels and values.
+fn number_in(row: &[Value], name: &[u8]) -> Option<u64>
+    ensures { result ≡ number_in name.now (map view row.now) }
+{
+    let mut rest = row;
+    while let [label, value, more @ ..] = rest {
+        if word_of(label) == name {
+            return number_of(word_of(value), 0, u64::MAX);
+        }
+        rest = more;
+    }
+    None
+}
+
+/// The numbers of a row; none where one of them isn't there.
+fn row_in(row: &[Value]) -> Option<Row>
+    ensures { result ≡ row_in (map view row.now) }
+{
+    let replicas = number_in(row, b"num-slaves")?;
+    let others = number_in(row, b"num-other-sentinels")?;
+    let quorum = number_in(row, b"quorum")?;
+    Some(Row {
+        replicas,
+        others,
+        quorum,
+    })
+}
+
+/// What a row tells; one that lacks a number tells nothing.
+fn told_row(row: Option<Row>) -> Heard
+    ensures { result ≡ told_row row }
+{
+    match row {
+        Some(row) => Heard::Row(row),
+        None => Heard::Nothing,
+    }
+}
+
+/// What the answer to SENTINEL MASTER tells.
+fn row_heard(value: Value) -> Heard
+    ensures { result ≡ row_heard (view value) }
+{
+    match value {
+        Value::Items(items) => told_row(row_in(items.as_slice())),
+        Value::Fault(text) => refused(Question::Row, text),
+        _ => Heard::Nothing,
     }
 }
 
@@ -209,23 +343,23 @@ fn begins_message(items: &[Value]) -> bool
 }
 
 /// What the last of a message's items tells.
-fn hello_of_items(mut items: Vec<Value>) -> Result<Option<Event>, LinkFault>
+fn hello_of_items(mut items: Vec<Value>) -> Result<Heard, LinkFault>
     ensures { result ≡ hello_of_list (map view items.items) }
 {
     if is_confirmed(items.as_slice()) {
-        return Ok(None);
+        return Ok(Heard::Nothing);
     }
     if !begins_message(items.as_slice()) {
         return Err(LinkFault::Strange);
     }
     match items.pop() {
-        Some(Value::Bulk(text)) => Ok(Some(Event::HelloRead { text })),
+        Some(Value::Bulk(text)) => Ok(Heard::Told(Event::HelloRead { text })),
         _ => Err(LinkFault::Strange),
     }
 }
 
 /// What a value tells that comes on a connection that listens to hellos.
-fn hello_heard(value: Value) -> Result<Option<Event>, LinkFault>
+fn hello_heard(value: Value) -> Result<Heard, LinkFault>
     ensures { result ≡ hello_heard (view value) }
 {
     match value {
@@ -235,20 +369,20 @@ fn hello_heard(value: Value) -> Result<Option<Event>, LinkFault>
 }
 
 /// What a value tells that answers this question.
-pub(crate) fn heard_of(
-    node: NodeName,
-    question: Question,
-    value: Value,
-) -> Result<Option<Event>, LinkFault>
+pub(crate) fn heard_of(node: NodeName, question: Question, value: Value) -> Result<Heard, LinkFault>
     ensures { result ≡ heard_of node question (view value) }
 {
     match question {
-        Question::Ping => ping_heard(node, &value),
+        Question::Ping => ping_heard(node, value),
         Question::Info => info_heard(node, value),
-        Question::Ask { master, addr } => ask_heard(node, master, addr, &value),
-        Question::HandOver => Ok(hand_over_heard(node, &value)),
-        Question::Order => Ok(None),
-        Question::Identity { id } => id_heard(id, &value),
+        Question::Ask { master, addr } => ask_heard(node, master, addr, value),
+        Question::HandOver => Ok(hand_over_heard(node, value)),
+        Question::Follow { promotes } => Ok(follow_heard(node, promotes, value)),
+        Question::Exec { promotes } => Ok(exec_heard(node, promotes, value)),
+        Question::Abort => Ok(Heard::Nothing),
+        Question::Row => Ok(row_heard(value)),
+        Question::Publish | Question::Order => Ok(plain_heard(question, value)),
+        Question::Identity { id } => id_heard(id, value),
         Question::Hello => hello_heard(value),
     }
 }

@@ -2,66 +2,31 @@
 
 ghost use Rattle.std.specs.Prelude.{◌≡◌, ◌≢◌, ◌<◌, ◌+◌, ◌-◌, ◌^◌, ◌↔◌, IfOk, IsSome};
 
-use crate::{ConfStore, FileFault, FileStep, FileText, LoadFault, StoreRefused};
+use crate::store::own_file::{Access, Mark, Own, give_access};
+use crate::{
+    ConfStore, FILE_MAX, FileFault, FileStep, FileText, LoadFault, LocksAlone, StoreRefused,
+};
 use std::alloc::{AllocError, Global};
-use std::fs::{self, Metadata, OpenFile, OpenOptions, Permissions};
+use std::fs::{self, OpenFile, OpenOptions};
 use std::io::{self, ErrorKind, Read, Write};
 use std::marker::Model;
 use std::os::fd::AsFd;
-use std::os::unix::fs::{MetadataExt, OpenOptionsExt, PermissionsExt, fchown};
+use std::os::unix::fs::OpenOptionsExt;
 use std::rt::Files;
 
 /// The mode with which a new file is made: its owner alone may read and write it.
 const OWNER_ALONE: u32 = 0o600;
 
-/// The bits of a mode that say who may do what.
-const PERMISSION_BITS: u32 = 0o7777;
-
-/// Whose a file is, and who may do what with it.
-#[derive(Clone, Copy)]
-struct Access {
-    mode: u32,
-    uid: u32,
-    gid: u32,
-}
-
-impl Access {
-    /// That of a file of which the system says this.
-    fn of(found: &Metadata) -> Access {
-        Access {
-            mode: found.mode() & PERMISSION_BITS,
-            uid: found.uid(),
-            gid: found.gid(),
-        }
-    }
-
-    /// The mode of a file of this access in another group, which may do what others may.
-    fn mode_in_another_group(self) -> u32 {
-        (self.mode & 0o7707) | ((self.mode & 0o007) << 3)
-    }
-}
-
-/// Gives an open file this access: its owner and its group where the system lets it. In another group its mode lets the
-/// group do no more than others.
-fn give_access<F: OpenFile + AsFd>(file: &F, access: Access) -> io::Result<()> {
-    let own = Access::of(&file.metadata()?);
-    let mut mode = access.mode;
-    if (own.uid, own.gid) != (access.uid, access.gid)
-        && fchown(file, Some(access.uid), Some(access.gid)).is_err()
-        && own.gid != access.gid
-        && fchown(file, None, Some(access.gid)).is_err()
-    {
-        mode = access.mode_in_another_group();
-    }
-    file.set_permissions(Permissions::from_mode(mode))
-}
-
 /// The file at a path. A text that was loaded is durable: its file and the folder were synced. A new text is written to
-/// `<path>.new`, which is made anew, for its owner alone, and gets the owner and the permissions of the file as it is
-/// or was seen last; it is synced, and renamed over the path; then the folder is synced. A crash at any moment, a loss
-/// of power too, so leaves the old text or the new one, and once a text is stored it stays. Each of these steps that
-/// fails is a refused store. Where a symlink is at the path, the file takes its place: who wants it to stay follows it
-/// first. Contracts see how many calls have failed.
+/// `<path>.new`, which is made anew, for its owner alone, and gets the owner and the permissions of the file: of one
+/// that somebody else put there it gets none, but those that the own one had last. It is synced, locked, and renamed
+/// over the path; then the folder is synced. A crash at any moment, a loss of power too, so leaves the old text or the
+/// new one, and once a text is stored it stays. Each of these steps but the lock that fails is a refused store. Where a
+/// symlink is at the path, the file takes its place: who wants it to stay follows it first. Contracts see how many
+/// calls have failed.
+///
+/// The file that was stored last stays open and locked, so that no other program that locks it first takes it for its
+/// own.
 #[derive(Drop)]
 pub struct FileStore<R: Files + Drop> {
     files: R,
@@ -69,7 +34,8 @@ pub struct FileStore<R: Files + Drop> {
     path: String,
     new_path: String,
     folder: String,
-    access: Option<Access>,
+    own: Option<Own>,
+    held: Option<R::File>,
     failed: u64,
     fault: Option<FileFault>,
 }
@@ -95,7 +61,8 @@ impl<R: Files + Drop> FileStore<R> {
             path: String::from_str(alloc, path)?,
             new_path: format!(in alloc; "{path}.new")?,
             folder: String::from_str(alloc, folder_of(path))?,
-            access: None,
+            own: None,
+            held: None,
             failed: 0,
             fault: None,
         })
@@ -108,6 +75,33 @@ impl<R: Files + Drop> FileStore<R> {
         self.fault
     }
 
+    /// Whether the file at the path isn't the one that this store loaded or put there last, or was written since, so
+    /// that the next replacement writes over what somebody else put there. Before the first call, and where no file is
+    /// at the path, it is not.
+    pub fn is_edited(&self) -> bool {
+        let Some(own) = self.own else {
+            return false;
+        };
+        match fs::metadata(&self.files, self.path.as_str()) {
+            Ok(found) => own.mark != Mark::of(&found),
+            Err(_) => false,
+        }
+    }
+
+    /// The text at the path where that `is_edited`. None where it isn't, and where it can't be read, or is longer than
+    /// a conf may be.
+    pub fn edited_text(&self) -> Option<FileText> {
+        if !self.is_edited() {
+            return None;
+        }
+        let found = fs::metadata(&self.files, self.path.as_str()).ok()?;
+        if !found.is_file() || found.len() > FILE_MAX as u64 {
+            return None;
+        }
+        let (_, bytes, _) = self.read_file().ok()?;
+        Some(FileText::from_vec(bytes))
+    }
+
     /// Counts a call that failed so.
     fn count(&mut self, fault: FileFault)
         requires { self.old < 2 ^ 64 - 1 }
@@ -117,22 +111,22 @@ impl<R: Files + Drop> FileStore<R> {
         self.fault = Some(fault);
     }
 
-    /// The file that is there, what it holds, and its access.
-    fn read_file(&self) -> io::Result<(R::File, Vec<u8>, Access)> {
+    /// The file that is there, and what it holds.
+    fn read_file(&self) -> io::Result<(R::File, Vec<u8>, Own)> {
         let mut file = fs::open(&self.files, self.path.as_str())?;
-        let access = Access::of(&file.metadata()?);
+        let own = Own::of(&file.metadata()?);
         let mut bytes = Vec::new(self.alloc);
         file.read_to_end(&mut bytes)?;
-        Ok((file, bytes, access))
+        Ok((file, bytes, own))
     }
 
-    /// What the file holds, and its access. It was renamed to its name before perhaps, and not yet synced: the disk
-    /// holds both now.
-    fn read_durably(&self) -> Result<(Vec<u8>, Access), FileFault> {
-        let (file, bytes, access) = FileStep::Read.tried(self.read_file())?;
+    /// What the file holds, and which one it is. It was renamed to its name before perhaps, and not yet synced: the
+    /// disk holds both now.
+    fn read_durably(&self) -> Result<(Vec<u8>, Own), FileFault> {
+        let (file, bytes, own) = FileStep::Read.tried(self.read_file())?;
         FileStep::Sync.tried(file.sync_all())?;
         FileStep::SyncFolder.tried(self.sync_folder())?;
-        Ok((bytes, access))
+        Ok((bytes, own))
     }
 
     /// Has the disk hold the names of the files in the folder.
@@ -141,12 +135,17 @@ impl<R: Files + Drop> FileStore<R> {
         folder.sync_all()
     }
 
-    /// The access of the file that is there; where none is, as it was seen last.
+    /// The access of the own file: as it is, or as it was last where another file is in its place, or none. Before the
+    /// first call the file that is there counts as the own one.
     fn access(&self) -> io::Result<Option<Access>> {
-        match fs::metadata(&self.files, self.path.as_str()) {
-            Ok(found) => Ok(Some(Access::of(&found))),
-            Err(error) if error.kind() == ErrorKind::NotFound => Ok(self.access),
-            Err(error) => Err(error),
+        match (fs::metadata(&self.files, self.path.as_str()), self.own) {
+            (Ok(found), None) => Ok(Some(Access::of(&found))),
+            (Ok(found), Some(own)) if own.mark.is_of_same_file(Mark::of(&found)) => {
+                Ok(Some(Access::of(&found)))
+            }
+            (_, Some(own)) => Ok(Some(own.access)),
+            (Err(error), None) if error.kind() == ErrorKind::NotFound => Ok(None),
+            (Err(error), None) => Err(error),
         }
     }
 
@@ -161,7 +160,7 @@ impl<R: Files + Drop> FileStore<R> {
 
 impl<R: Files + Drop> FileStore<R>
 where
-    R::File: AsFd,
+    R::File: AsFd + LocksAlone,
 {
     /// The new file, which is empty, with this access, or where there is none for its owner alone.
     fn new_file(&self, access: Option<Access>) -> io::Result<R::File> {
@@ -176,18 +175,28 @@ where
         Ok(file)
     }
 
-    /// Writes the text to the new file, puts that in the place of the old one, and has the disk hold both steps: the
-    /// access of the new one.
-    fn replace_file(&self, text: &[u8]) -> Result<Option<Access>, FileFault> {
+    /// The new file with this text, which the disk holds, and what the system says of it.
+    fn written_file(&self, text: &[u8]) -> Result<(R::File, Own), FileFault> {
         let access = FileStep::Make.tried(self.access())?;
         let mut file = FileStep::Make.tried(self.new_file(access))?;
         FileStep::Write.tried(file.write_all(text))?;
         FileStep::Sync.tried(file.sync_all())?;
-        drop(file);
+        let own = Own::of(&FileStep::Sync.tried(file.metadata())?);
+        Ok((file, own))
+    }
+
+    /// Writes the text to the new file, puts that in the place of the old one, and has the disk hold both steps. The
+    /// new one is locked before it has its name, and held.
+    fn replace_file(&mut self, text: &[u8]) -> Result<(), FileFault>
+        ensures { self.new ≡ self.old }
+    {
+        let (file, own) = self.written_file(text)?;
+        let is_locked = file.lock_alone();
         let (from, to) = (self.new_path.as_str(), self.path.as_str());
         FileStep::Rename.tried(fs::rename(&self.files, from, to))?;
-        FileStep::SyncFolder.tried(self.sync_folder())?;
-        Ok(access)
+        self.own = Some(own);
+        self.held = if is_locked { Some(file) } else { None };
+        FileStep::SyncFolder.tried(self.sync_folder())
     }
 }
 
@@ -202,14 +211,14 @@ fn folder_of(path: &str) -> &str {
 
 impl<R: Files + Drop> ConfStore for FileStore<R>
 where
-    R::File: AsFd,
+    R::File: AsFd + LocksAlone,
 {
     ghost failure_count = { λ store. store };
 
     fn load(&mut self) -> Result<FileText, LoadFault> {
         match self.read_durably() {
-            Ok((bytes, access)) => {
-                self.access = Some(access);
+            Ok((bytes, own)) => {
+                self.own = Some(own);
                 Ok(FileText::from_vec(bytes))
             }
             Err(fault) => {
@@ -224,10 +233,7 @@ where
 
     fn replace(&mut self, text: &[u8]) -> Result<(), StoreRefused> {
         match self.replace_file(text) {
-            Ok(access) => {
-                self.access = access;
-                Ok(())
-            }
+            Ok(()) => Ok(()),
             Err(fault) => {
                 self.count(fault);
                 Err(StoreRefused)

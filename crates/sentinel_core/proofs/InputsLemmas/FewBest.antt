@@ -7,10 +7,10 @@ use Rattle.replica_choice.specs.declared.candidates.Candidate.{Candidate}
 use Rattle.replica_choice.specs.declared.candidates.Limits.{Limits}
 use Rattle.replica_choice.specs.Choices.{candidate_at, is_eligible, is_better, with_place, choice_below, choice_of}
 use Rattle.sentinel_rules.specs.Plans.{Plan, nodes_of, addr_at}
-use Rattle.sentinel_rules.specs.States.{Core, node_of, card_place}
-use Rattle.sentinel_rules.specs.Ticks.{candidate_of, candidates_of, limits_of, best_of, best_place}
+use Rattle.sentinel_rules.specs.States.{Core, node_of, card_place, place_followed}
+use Rattle.sentinel_rules.specs.Ticks.{candidate_of, candidates_of, willing_of, willing_ones, best_willing, limits_of, best_told, best_of, best_place}
 use Rattle.sentinel_rules.proofs.Choices.{length-at_places}
-use Rattle.sentinel_rules.specs.Profiles.{by_profile, place_followed, passing, is_taking_over, switched_to, is_given_away, first_of}
+use Rattle.sentinel_rules.specs.Profiles.{by_profile, passing, is_taking_over, switched_to, is_given_away, first_of}
 use Rattle.sentinel_rules.specs.declared.profiles.Profile.{Profile}
 use Rattle.sentinel_rules.specs.declared.profiles.Profile.TheVariants.{Strict, Redis}
 use Rattle.sentinel_rules.specs.declared.assumed.TheConstants.{ASSUMED_INFO}
@@ -57,6 +57,10 @@ passing_within n (Some k) passes h = known (passes k)
     known true = h
     known false = tt
 
+either_within : (n : ℕ) (profile : Profile) (strict redis : Option ℕ) → IfSome strict (λ k. k < n) → IfSome redis (λ k. k < n) → IfSome (by_profile profile strict redis) (λ k. k < n)
+either_within n Strict strict redis f g = f
+either_within n Redis strict redis f g = g
+
 by_rules : (n : ℕ) (profile : Profile) (redis : Option ℕ) → IfSome redis (λ k. k < n) → IfSome (by_profile profile None redis) (λ k. k < n)
 by_rules n Strict redis h = tt
 by_rules n Redis redis h = h
@@ -69,13 +73,24 @@ unless_away : (n : ℕ) (away : Bool) (told : Option ℕ) → IfSome told (λ k.
 unless_away n true told h = tt
 unless_away n false told h = h
 
+willing_within : (plan : Plan) (core : Core) (m now : ℕ) (again : Bool) → IfSome (best_willing plan core m now again) (λ k. k < length (nodes_of plan m))
+willing_within plan core m now again =
+    let some = willing_ones plan core m now again in
+    let best = best_willing plan core m now again in
+    let same : length some ≡ length (nodes_of plan m) = length-at_places (willing_of plan core m now again) 0 (length (nodes_of plan m)) in
+    subst (λ (c : ℕ). IfSome best (λ k. k < c)) same (below_within some now (limits_of plan core m now) (length some))
+
 pub best_few : (plan : Plan) (core : Core) (m now : ℕ) → length (nodes_of plan m) ≤ NODES_MAX → IfSome (best_of plan core m now) (λ b. b.0 ≤ NODES_MAX)
 best_few plan core m now few =
     let all = candidates_of plan core m now in
     let n = length (nodes_of plan m) in
     let same : length all ≡ length (nodes_of plan m) = length-at_places (candidate_of plan core m now) 0 (length (nodes_of plan m)) in
-    let told = choice_of all now (limits_of plan core m now) in
-    let inside : IfSome told (λ k. k < n) = subst (λ (c : ℕ). IfSome told (λ k. k < c)) same (below_within all now (limits_of plan core m now) (length all)) in
+    let any = choice_of all now (limits_of plan core m now) in
+    let any_inside : IfSome any (λ k. k < n) = subst (λ (c : ℕ). IfSome any (λ k. k < c)) same (below_within all now (limits_of plan core m now) (length all)) in
+    let told = best_told plan core m now in
+    let inside : IfSome told (λ k. k < n) =
+    either_within n plan.profile any (first_of (best_willing plan core m now false) (best_willing plan core m now true)) any_inside
+    (first_within n (best_willing plan core m now false) (best_willing plan core m now true) (willing_within plan core m now false) (willing_within plan core m now true)) in
     let followed = (unwrap_or (node_of core m (card_place plan core m)).info ASSUMED_INFO).master in
     let switched = passing (place_followed plan m followed) (is_taking_over plan core m now) in
     with_addr plan m n (best_place plan core m now) few

@@ -1,6 +1,6 @@
 -- Answers that have a spelling, and lines that have room.
 use Rattle.std.proofs.Common.{◌≡◌, ℕ, zero, suc, List, [], ◌∷◌, Option, Some, None, refl, sym, ap, ◌∙◌, subst, arith, ◌++◌}
-use Rattle.std.specs.Prelude.{slice_get, ◌||◌, if◌then◌else◌, Bool, true, false}
+use Rattle.std.specs.Prelude.{slice_get, if◌then◌else◌, Bool, true, false}
 use Rattle.ballot_law.specs.declared.addresses.Addr.{Addr}
 use Rattle.ballot_law.specs.declared.addresses.RunId.{RunId}
 use Rattle.ballot_law.specs.declared.commands.Command.{Command}
@@ -21,13 +21,13 @@ use Rattle.resp2.specs.Framing.Frame.{Frame, spelling}
 use Rattle.resp2.proofs.FramingLemmas.Lines.{pong_line}
 use Rattle.sentinel_conf.specs.Rewritten.{IsKeptPart}
 use Rattle.sentinel_rules.proofs.ShownEpochs.{voted_within}
-use Rattle.sentinel_rules.specs.Answers.{commanded, asked_of, master_with_card, named, about, reply, master_row, replica_rows, sentinel_rows, quorum_frame, Answered, unchanged, has_heir, wished, asked_to_switch}
+use Rattle.sentinel_rules.specs.Answers.{commanded, asked_of, master_with_card, named, about, reply, master_row, replica_rows, sentinel_rows, quorum_frame, Answered, unchanged, is_engaged, has_heir, wished, asked_to_switch}
 use Rattle.sentinel_rules.specs.Plans.{Plan}
 use Rattle.sentinel_rules.specs.Rows.{master_frame_by, replicas_frame_by, sentinels_frame_by}
-use Rattle.sentinel_rules.specs.States.{Core, is_failing_over, is_tilted, is_wished}
+use Rattle.sentinel_rules.specs.States.{Core, is_tilted}
 use Rattle.sentinel_rules.specs.Takes.{next, cleared}
 use Rattle.node_texts.specs.Messages.MessageTexts.{IsWritable}
-use Rattle.sentinel_rules.specs.Profiles.{by_profile}
+use Rattle.sentinel_rules.specs.Profiles.{by_profile, candidate_heeded}
 use Rattle.sentinel_rules.specs.declared.profiles.Profile.{Profile}
 use Rattle.sentinel_rules.specs.declared.profiles.Profile.TheVariants.{Strict, Redis}
 
@@ -68,7 +68,7 @@ switch_writable plan m now false false false core = tt
 asked_switch_writable : (plan : Plan) (now : ℕ) (m : Option ℕ) (core : Core) → IsWritable (asked_to_switch plan now m core).body
 asked_switch_writable plan now None core = tt
 asked_switch_writable plan now (Some m) core =
-    switch_writable plan m now (is_failing_over core m || is_wished core m now) (is_tilted core) (has_heir plan core m now) core
+    switch_writable plan m now (is_engaged plan core m now) (is_tilted core) (has_heir plan core m now) core
 
 either_writable : (profile : Profile) (strict redis : Answered) → IsWritable strict.body → IsWritable redis.body → IsWritable (by_profile profile strict redis).body
 either_writable Strict strict redis f g = f
@@ -78,7 +78,7 @@ pub command_writable : (plan : Plan) (now : ℕ) (command : Command) (core : Cor
     → IsKeptPart plan.conf (commanded plan now command core).core.kept → IsWritable (commanded plan now command core).body
 command_writable plan now Ping core h = pong_line
 command_writable plan now (IsMasterDownByAddr addr epoch candidate) core h =
-    asked_writable plan now addr epoch candidate (master_with_card core.kept.masters addr) core h
+    asked_writable plan now addr epoch (candidate_heeded plan candidate) (master_with_card core.kept.masters addr) core h
 command_writable plan now (GetMasterAddrByName name) core h = tt
 command_writable plan now Masters core h = tt
 command_writable plan now (Master name) core h =

@@ -6,7 +6,7 @@ ghost use Rattle.ballot_law.specs.declared.messages.TheConstants.{ANSWER_MAX, SH
 ghost use Rattle.ballot_law.specs.Clocks.{clock};
 ghost use Rattle.resp2.specs.Framing.Frame.{spelling};
 ghost use Rattle.port_answers.specs.Answers.{no_such_master, ok_line, in_progress, in_tilt, no_good_replica, id_frame, subscribed, command_fault};
-ghost use Rattle.sentinel_rules.specs.Answers.{master_with_card, asked_of, master_row, all_masters, info_frame, reply, named, about, address_of, switch_at, asked_to_switch, commanded};
+ghost use Rattle.sentinel_rules.specs.Answers.{master_with_card, asked_of, master_row, all_masters, info_frame, reply, named, about, address_of, is_engaged, switch_at, asked_to_switch, commanded};
 ghost use Rattle.sentinel_rules.specs.Plans.{roster_of, me, master_count};
 ghost use Rattle.sentinel_rules.specs.Rows.{masters_frame_by};
 ghost use Rattle.sentinel_core.specs.Inputs.Plain.{is_plain, is_switch, answer_about};
@@ -83,7 +83,11 @@ pub fn answer_plainly(plan: &Plan, core: &mut Core, now: u64, command: &Command)
             addr,
             epoch,
             candidate,
-        } => Some(answer_down(plan, core, now, addr, epoch, candidate)),
+        } => {
+            let heeded = plan.candidate_heeded(candidate);
+            core.note_ghost(now, candidate, heeded);
+            Some(answer_down(plan, core, now, addr, epoch, heeded))
+        }
         Command::GetMasterAddrByName(name) => {
             Some(Body::AddressAnswer(shown_by_name(plan, core, name)))
         }
@@ -348,6 +352,13 @@ fn answer_no_good_replica(text: AnswerText, shown: Vec<Shown>) -> Body
     reply(text, shown)
 }
 
+/// Whether no switch may be asked for now. One that nobody could take over isn't put off: it is refused for that.
+fn is_engaged(plan: &Plan, core: &Core, m: u16, now: u64) -> bool
+    ensures { result ≡ is_engaged plan.now core.now m (clock now) }
+{
+    core.is_in_progress(m, now) || (core.is_put_off(m, now) && has_heir(plan, core, m, now))
+}
+
 /// The answer to SENTINEL FAILOVER of this master, whose campaign begins with the next tick where nothing is against
 /// it.
 fn answer_switch_at(
@@ -363,7 +374,7 @@ fn answer_switch_at(
     ensures core { core.new ≡ (switch_at plan.now m (clock now) core.old).core }
     ensures body { result ≡ (switch_at plan.now m (clock now) core.old).body }
 {
-    if core.is_failing_over(m) || core.is_wished(m, now) {
+    if is_engaged(plan, core, m, now) {
         return answer_in_progress(text, shown);
     }
     if core.is_tilted() {

@@ -1,13 +1,15 @@
 //! What a turn of a master's failover looks at: the best replica, which nodes are down, and the votes of its campaign.
 
-ghost use Rattle.std.specs.Prelude.{◌≡◌, ◌≤◌, ◌<◌, [], None, IfSome, if◌then◌else◌, is_some, length, take};
+ghost use Rattle.std.specs.Prelude.{◌≡◌, ◌≤◌, ◌<◌, [], None, IfSome, if◌then◌else◌, is_some, false, length, take};
+ghost use Rattle.std.specs.List.{list_all};
 ghost use Rattle.ballot_law.specs.declared.rosters.TheConstants.{NODES_MAX};
 ghost use Rattle.ballot_law.specs.Clocks.{clock};
-ghost use Rattle.sentinel_rules.specs.Plans.{me, nodes_of};
-ghost use Rattle.sentinel_rules.specs.States.{card_place, is_node_down, node_of};
+ghost use Rattle.ballot_law.specs.Watches.{down_since_of};
+ghost use Rattle.sentinel_rules.specs.Plans.{me, nodes_of, settings_at};
+ghost use Rattle.sentinel_rules.specs.States.{card_place, is_at, is_node_down, node_of};
 ghost use Rattle.replica_choice.specs.Choices.{choice_of};
 ghost use Rattle.sentinel_rules.specs.Answers.{may_take_over, has_heir};
-ghost use Rattle.sentinel_rules.specs.Ticks.{candidate_of, candidates_of, at_places, limits_of, best_place, best_of, pick_of, count_of};
+ghost use Rattle.sentinel_rules.specs.Ticks.{candidate_of, candidates_of, willing_of, willing_ones, best_willing, at_places, limits_of, best_told, best_place, best_of, pick_of, count_of, is_all_down, is_own_pause};
 ghost use Rattle.sentinel_rules.specs.Profiles.{link_at, lesser, least_link_ms, down_for, master_down_ms};
 ghost use Rattle.sentinel_core.specs.Inputs.Rows.{looks_at_votes, looks_at_best, looks_at_nodes};
 
@@ -17,6 +19,17 @@ use replica_choice::{Candidate, Limits, choose};
 use sentinel_rules::{LINK_MAX_S, Profile};
 use sentinel_state::{Core, Plan, State};
 use std::marker::Model;
+
+/// A node that can't be chosen.
+const NO_CANDIDATE: Candidate = Candidate {
+    sdown: true,
+    priority: 0,
+    link_down_s: 0,
+    last_ping: None,
+    last_info: None,
+    offset: 0,
+    id: None,
+};
 
 /// For how long something has been down, in milliseconds.
 pub(crate) fn down_for(since: Option<u64>, now: u64) -> u64
@@ -90,7 +103,14 @@ impl DownPlaces {
 }
 
 /// What is known of the node at a place as a replica to choose; the node of the configuration, at `card_at`, is none.
-fn candidate(plan: &Plan, core: &Core, m: u16, now: u64, card_at: usize, k: usize) -> Candidate
+pub(crate) fn candidate(
+    plan: &Plan,
+    core: &Core,
+    m: u16,
+    now: u64,
+    card_at: usize,
+    k: usize,
+) -> Candidate
     requires { card_at ≡ card_place plan.now core.now m }
     ensures { result ≡ candidate_of plan.now core.now m (clock now) k }
 {
@@ -104,18 +124,31 @@ fn candidates(plan: &Plan, core: &Core, m: u16, now: u64, card_at: usize) -> [Ca
     requires { card_at ≡ card_place plan.now core.now m }
     ensures { take (length (nodes_of plan.now m)) result ≡ candidates_of plan.now core.now m (clock now) }
 {
-    let none = Candidate {
-        sdown: true,
-        priority: 0,
-        link_down_s: 0,
-        last_ping: None,
-        last_info: None,
-        offset: 0,
-        id: None,
-    };
-    let mut candidates = [none; NODES_MAX];
+    let mut candidates = [NO_CANDIDATE; NODES_MAX];
     for k in 0..plan.nodes(m).len() {
         candidates[k] = candidate(plan, core, m, now, card_at, k);
+    }
+    candidates
+}
+
+/// What is known of the node at a place as a replica to choose where one that didn't obey is none: at first, or
+/// `again`, where there is no other.
+fn willing(plan: &Plan, core: &Core, m: u16, now: u64, again: bool, k: usize) -> Candidate
+    ensures { result ≡ willing_of plan.now core.now m (clock now) again k }
+{
+    let card_at = core.card_place(plan, m);
+    let mut willing = candidate(plan, core, m, now, card_at, k);
+    willing.sdown = willing.sdown || core.is_passed_over(plan, m, now, again, k);
+    willing
+}
+
+/// Each node of a master as such a replica, by its place.
+fn willing_ones(plan: &Plan, core: &Core, m: u16, now: u64, again: bool) -> [Candidate; NODES_MAX]
+    ensures { take (length (nodes_of plan.now m)) result ≡ willing_ones plan.now core.now m (clock now) again }
+{
+    let mut candidates = [NO_CANDIDATE; NODES_MAX];
+    for k in 0..plan.nodes(m).len() {
+        candidates[k] = willing(plan, core, m, now, again, k);
     }
     candidates
 }
@@ -198,16 +231,17 @@ fn master_down_ms(state: &State, m: u16, now: u64, card_at: usize) -> u64
     match state.plan.profile() {
         Profile::Strict => found,
         Profile::Redis => {
+            let unled = down_for(state.core.replica_since(m, card_at), clock_of(now));
             if has_replied(state, m, card_at) {
-                return found;
+                return unled.max(found);
             }
-            found.max(least_link_ms(state, m, card_at))
+            unled.max(found.max(least_link_ms(state, m, card_at)))
         }
     }
 }
 
 /// For how long the master has been down, beside its setting.
-fn limits(state: &State, m: u16, now: u64, card_at: usize) -> Limits
+pub(crate) fn limits(state: &State, m: u16, now: u64, card_at: usize) -> Limits
     requires { card_at ≡ card_place state.now.plan state.now.core m }
     ensures { result ≡ limits_of state.now.plan state.now.core m (clock now) }
 {
@@ -217,16 +251,55 @@ fn limits(state: &State, m: u16, now: u64, card_at: usize) -> Limits
     }
 }
 
-/// The place of the best replica of a master to take its place, by what it told; none where no replica may.
-fn best_told(state: &State, m: u16, now: u64) -> Option<usize>
-    ensures value { result ≡ choice_of (candidates_of state.now.plan state.now.core m (clock now)) (clock now) (limits_of state.now.plan state.now.core m (clock now)) }
+/// The place of the best of so many candidates.
+fn best_in(
+    candidates: &[Candidate; NODES_MAX],
+    count: usize,
+    now: u64,
+    limits: Limits,
+) -> Option<usize>
+    requires { count ≤ NODES_MAX }
+    ensures value { result ≡ choice_of (take count candidates.now) (clock now) limits }
+    ensures within { IfSome result (λ k. k < count) }
+{
+    choose(&candidates[..count], clock_of(now), limits)
+}
+
+/// The place of the best of all replicas, by what they told; none where no replica may be chosen.
+fn best_of_all(state: &State, m: u16, now: u64, card_at: usize, limits: Limits) -> Option<usize>
+    requires { card_at ≡ card_place state.now.plan state.now.core m }
+    ensures value { result ≡ choice_of (candidates_of state.now.plan state.now.core m (clock now)) (clock now) limits }
     ensures within { IfSome result (λ k. k < length (nodes_of state.now.plan m)) }
 {
-    let nodes = state.plan.nodes(m);
-    let card_at = state.core.card_place(&state.plan, m);
     let candidates = candidates(&state.plan, &state.core, m, now, card_at);
+    best_in(&candidates, state.plan.nodes(m).len(), now, limits)
+}
+
+/// The place of the best of those that didn't fail to obey: at first, or `again`, where there is no other.
+fn best_willing(state: &State, m: u16, now: u64, limits: Limits, again: bool) -> Option<usize>
+    requires { limits ≡ limits_of state.now.plan state.now.core m (clock now) }
+    ensures value { result ≡ best_willing state.now.plan state.now.core m (clock now) again }
+    ensures within { IfSome result (λ k. k < length (nodes_of state.now.plan m)) }
+{
+    let candidates = willing_ones(&state.plan, &state.core, m, now, again);
+    best_in(&candidates, state.plan.nodes(m).len(), now, limits)
+}
+
+/// The place of the best replica of a master to take its place, by what it told; none where no replica may. By the
+/// profile one that didn't obey is chosen where there is no other, some time later.
+fn best_told(state: &State, m: u16, now: u64) -> Option<usize>
+    ensures value { result ≡ best_told state.now.plan state.now.core m (clock now) }
+    ensures within { IfSome result (λ k. k < length (nodes_of state.now.plan m)) }
+{
+    let card_at = state.core.card_place(&state.plan, m);
     let limits = limits(state, m, now, card_at);
-    choose(&candidates[..nodes.len()], clock_of(now), limits)
+    match state.plan.profile() {
+        Profile::Strict => best_of_all(state, m, now, card_at, limits),
+        Profile::Redis => match best_willing(state, m, now, limits, false) {
+            Some(k) => Some(k),
+            None => best_willing(state, m, now, limits, true),
+        },
+    }
 }
 
 /// The place of the best replica of a master: after a switch that was made at the nodes that of the node which took
@@ -264,6 +337,59 @@ fn down_places(state: &State, m: u16, now: u64) -> DownPlaces
         down[k] = state.core.is_node_down(&state.plan, m, now, card_at, k);
     }
     DownPlaces { down, count }
+}
+
+/// Whether it has been since this reading.
+fn is_at(since: Option<u64>, at: u64) -> bool
+    ensures { result ≡ is_at since at }
+{
+    match since {
+        Some(since) => at == since,
+        None => false,
+    }
+}
+
+/// Whether each Sentinel is down, by the first master's `down-after-milliseconds`.
+fn are_peers_down(state: &State, now: u64) -> bool
+    ensures { result ≡ list_all (λ peer. is_some (down_since_of peer.watch (clock now) (settings_at state.now.plan 0).after_ms false)) state.now.core.peers }
+{
+    let after_ms = state.plan.settings(0).after_ms;
+    state.core.peers().iter().all(|peer| peer.watch.sdown_since(now, after_ms, false).is_some())
+}
+
+/// Whether all of these are.
+fn are_all(down: &[bool]) -> bool
+    ensures { result ≡ list_all (λ one. one) down.now }
+{
+    down.iter().all(|one| *one)
+}
+
+/// Whether all nodes of a master are down.
+fn are_nodes_down(state: &State, m: u16, now: u64) -> bool
+    ensures { result ≡ list_all (λ one. one) (at_places (is_node_down state.now.plan state.now.core m (clock now)) 0 (length (nodes_of state.now.plan m))) }
+{
+    let nodes = down_places(state, m, now);
+    are_all(nodes.as_slice())
+}
+
+/// Whether all nodes of a master are down, and all other Sentinels.
+fn is_all_down(state: &State, m: u16, now: u64) -> bool
+    ensures { result ≡ is_all_down state.now.plan state.now.core m (clock now) }
+{
+    are_nodes_down(state, m, now) && are_peers_down(state, now)
+}
+
+/// Whether all are down at the reading at which the master is found objectively down, by the profile: it may be this
+/// Sentinel that stood still.
+pub(crate) fn is_own_pause(state: &State, m: u16, now: u64) -> bool
+    ensures { result ≡ is_own_pause state.now.plan state.now.core m (clock now) }
+{
+    match state.plan.profile() {
+        Profile::Strict => false,
+        Profile::Redis => {
+            is_at(state.core.odown_since(m), clock_of(now)) && is_all_down(state, m, now)
+        }
+    }
 }
 
 /// The pick of the votes heard, where the rows of this state look at it.

@@ -1,6 +1,6 @@
 //! The failover of a master: its start, and the row that it takes at each tick.
 
-ghost use Rattle.std.specs.Prelude.{◌≡◌, ◌++◌, ◌<◌, ◌≤◌, true, false, IfSome, length};
+ghost use Rattle.std.specs.Prelude.{◌≡◌, ◌++◌, ◌<◌, ◌≤◌, ◌&&◌, ◌||◌, not, true, false, IfSome, IsTrue, length};
 ghost use Rattle.ballot_law.specs.declared.rosters.TheConstants.{NODES_MAX};
 ghost use Rattle.ballot_law.specs.Clocks.{clock};
 ghost use Rattle.failover_states.specs.Calls.{choice_of};
@@ -9,15 +9,18 @@ ghost use Rattle.failover_states.specs.Replicas.{replica_at};
 ghost use Rattle.failover_states.specs.Table.{turned};
 ghost use Rattle.sentinel_rules.specs.Parts.{frames_from};
 ghost use Rattle.sentinel_rules.specs.Plans.{master_count};
-ghost use Rattle.sentinel_rules.specs.Profiles.{with_pause};
-ghost use Rattle.sentinel_rules.specs.States.{failover_of, is_unrefused, with_failover};
-ghost use Rattle.sentinel_rules.specs.Ticks.{known_of, turn_of, with_vote, with_win, hands_over, order_to, promote_frames, order_frames, row_part, is_start_due, start_part, starts_now};
+ghost use Rattle.sentinel_rules.specs.Profiles.{with_pause, awaited_up, disobeyed, with_failed, is_switch_due};
+ghost use Rattle.sentinel_rules.specs.States.{failover_of, is_unrefused, with_failover, is_wished, master_of};
+ghost use Rattle.sentinel_rules.specs.Ticks.{campaign_epoch, known_of, turn_of, with_vote, with_win, hands_over, order_to, promote_frames, order_frames, row_part, is_start_due, start_part, starts_now, is_own_pause};
 ghost use Rattle.sentinel_state.specs.Parts.{with_part};
 ghost use Rattle.sentinel_state.specs.Nodes.Room.{added};
 ghost use Rattle.sentinel_core.specs.Inputs.Rows.{is_promotion, is_too_late, looked_at};
 
-use crate::inputs::facts::{best_for, card_place_for, count_for, down_for_rows, pick_for};
-use ballot_law::{Heir, Win};
+use crate::inputs::facts::{
+    best_for, card_place_for, count_for, down_for_rows, is_own_pause, pick_for,
+};
+use crate::inputs::unfit::note_unfit;
+use ballot_law::{DataRole, Heir, Win};
 use failover_states::{Act, Facts, FailoverState, Row};
 use sentinel_rules::Frame;
 use sentinel_state::{Core, FrameList, MasterNotice, Plan, State};
@@ -36,22 +39,29 @@ fn is_too_late(row: Option<Row>) -> bool
     matches!(row, Some(Row::PromotionTimeout))
 }
 
-/// Whether a client asked that the master hand over; or the own campaign may begin, and the master was objectively down
-/// when that was last looked at, or was handed over at the nodes.
-fn is_start_due(state: &State, m: u16, now: u64) -> bool
-    ensures value { result ≡ is_start_due state.now.plan state.now.core m (clock now) }
-    ensures here { result ≡ true → m < length state.now.core.masters }
+/// Whether there is a reason for a failover: a client asked that the master hand over, the master was objectively down
+/// when that was last looked at, or it was handed over at the nodes.
+fn is_called_for(state: &State, m: u16, now: u64) -> bool
+    ensures value { result ≡ (is_wished state.now.core m (clock now)
+        || (((master_of state.now.core m).odown && not (is_own_pause state.now.plan state.now.core m (clock now)))
+        || is_switch_due state.now.plan state.now.core m (clock now))) }
+    ensures here { IsTrue result → m < length state.now.core.masters }
 {
     if state.core.is_wished(m, now) {
         return true;
     }
-    if state.core.was_odown(m) {
-        return state.core.may_begin(&state.plan, m, now);
+    if state.core.was_odown(m) && !is_own_pause(state, m, now) {
+        return true;
     }
-    if state.core.is_switch_due(&state.plan, m, now) {
-        return state.core.may_begin(&state.plan, m, now);
-    }
-    false
+    state.core.is_switch_due(&state.plan, m, now)
+}
+
+/// Whether there is one, and the own campaign may begin.
+fn is_start_due(state: &State, m: u16, now: u64) -> bool
+    ensures value { result ≡ is_start_due state.now.plan state.now.core m (clock now) }
+    ensures here { result ≡ true → m < length state.now.core.masters }
+{
+    is_called_for(state, m, now) && state.core.may_begin(&state.plan, m, now)
 }
 
 /// Starts a failover where none runs and one is due, and tells whether it did. A failover that starts opens the epoch
@@ -82,12 +92,13 @@ pub(crate) fn take_row(state: &mut State, m: u16, now: u64)
     requires { m < master_count state.old.plan }
     ensures { state.new ≡ with_part state.old (row_part state.old.plan m (clock now) state.old.core) }
 {
-    let epoch = state.core.campaign_epoch(m);
+    let campaign = campaign_of(state, m, now);
     let switch = switch_of(&state.core, m);
     let hands_over = hands_over(state, m, now);
     let act = turn(state, m, now, false);
     put_orders(state, m, switch, hands_over, act.row);
-    end_row(&mut state.core, &state.plan, m, now, epoch, &act);
+    end_row(&mut state.core, &state.plan, m, now, campaign, &act);
+    note_unfit(state, m, now, act.row);
 }
 
 /// Tells the choice that it is the master, and replicas to follow the new one, where the row does.
@@ -102,14 +113,35 @@ fn put_orders(state: &mut State, m: u16, switch: Switch, hands_over: bool, row: 
     order_replicas(&state.core, &state.plan, m, &mut state.frames);
 }
 
-/// Gives the vote of a row, notes an election that it won, and has the next campaign wait where it ends one.
-fn end_row(core: &mut Core, plan: &Plan, m: u16, now: u64, epoch: u64, act: &Act)
-    ensures { core.new ≡ with_pause plan.now m (clock now) act.now.row
-        (with_win m epoch act.now.row (with_vote plan.now m (clock now) epoch act.now.vote core.old)) }
+/// Of a failover before a turn: the epoch of its campaign, and the replica that was told that it is the master, where
+/// it is up.
+#[derive(Clone, Copy)]
+struct Campaign {
+    epoch: u64,
+    awaited: Option<u16>,
+}
+
+/// What the failover of a master is as a campaign.
+fn campaign_of(state: &State, m: u16, now: u64) -> Campaign
+    ensures epoch { result.epoch ≡ campaign_epoch state.now.core m }
+    ensures awaited { result.awaited ≡ awaited_up state.now.plan state.now.core m (clock now) }
 {
-    core.give_vote(plan, m, now, epoch, act.vote);
-    note_win(core, m, epoch, act.row);
+    Campaign {
+        epoch: state.core.campaign_epoch(m),
+        awaited: state.core.awaited_up(&state.plan, m, now),
+    }
+}
+
+/// Gives the vote of a row, notes an election that it won, has the next campaign wait where it ends one, and keeps it
+/// of the replica that was awaited where it gives that up.
+fn end_row(core: &mut Core, plan: &Plan, m: u16, now: u64, campaign: Campaign, act: &Act)
+    ensures { core.new ≡ with_failed m (clock now) (disobeyed act.now.row campaign.awaited) (with_pause plan.now m (clock now) act.now.row
+        (with_win m campaign.epoch act.now.row (with_vote plan.now m (clock now) campaign.epoch act.now.vote core.old))) }
+{
+    core.give_vote(plan, m, now, campaign.epoch, act.vote);
+    note_win(core, m, campaign.epoch, act.row);
     core.rest_after(plan, m, now, act.row);
+    core.pass_over(m, now, act.row, campaign.awaited);
 }
 
 /// A turn of the failover: the facts that its rows don't look at are left out. Without a master with this number
@@ -212,6 +244,14 @@ fn switch_of(core: &Core, m: u16) -> Switch
     }
 }
 
+/// Whether the node at a place last said that it is a master.
+fn says_master(core: &Core, m: u16, place: usize) -> bool {
+    match core.info(m, place) {
+        Some(info) => matches!(info.role, DataRole::Master),
+        None => false,
+    }
+}
+
 /// Has the choice be the master, where the row does; a master that was to hand over, and neither did in time nor
 /// refused, is told to stay.
 fn promote_choice(state: &mut State, m: u16, switch: Switch, hands_over: bool, row: Option<Row>)
@@ -233,9 +273,8 @@ fn promote_choice(state: &mut State, m: u16, switch: Switch, hands_over: bool, r
     state
         .frames
         .push_if(switch.unrefused && is_too_late(row), stay);
-    state
-        .core
-        .note_master_if(switch.planned && is_too_late(row), m, MasterNotice::Stays);
+    let stays = switch.planned && is_too_late(row) && says_master(&state.core, m, place);
+    state.core.note_master_if(stays, m, MasterNotice::Stays);
 }
 
 /// Tells replicas to follow the new master, by address.

@@ -126,7 +126,8 @@ pub fn hear_loss(state: &mut State, node: NodeName)
     }
 }
 
-/// Takes it that a data node refused to hand over, where that was asked of it in a failover whose choice is awaited.
+/// Takes it that a data node refused an order, where that was told to bring the new master about: to hand over, or to
+/// be the master.
 fn refuse_at(state: &mut State, node: NodeName)
     ensures { state.new ≡ record state.old {
       core
@@ -134,14 +135,15 @@ fn refuse_at(state: &mut State, node: NodeName)
     } }
 {
     if let Some(at) = state.plan.node_named(node)
-        && state.core.is_handed(at.master)
-        && at.place as usize == state.core.card_place(&state.plan, at.master)
+        && state
+            .core
+            .is_order_taker(&state.plan, at.master, at.place as usize)
     {
         state.core.refuse(at.master);
     }
 }
 
-/// Takes it that a data node refused to hand over; by the strict rules this changes nothing.
+/// Takes it that a data node refused an order; by the strict rules this changes nothing.
 pub fn hear_refusal(state: &mut State, node: NodeName)
     ensures { state.new ≡ record state.old { core = refusal_heard state.old.plan node state.old.core } }
 {

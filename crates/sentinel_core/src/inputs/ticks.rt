@@ -51,7 +51,8 @@ fn judge_master(state: &mut State, m: u16, now: u64, card_at: usize)
     fail_over(state, m, now, down);
 }
 
-/// Keeps whether the master is objectively down; `down` is whether this Sentinel finds it down, here and below.
+/// Keeps whether the master is objectively down, and what that does to a failover that runs; `down` is whether this
+/// Sentinel finds it down, here and below.
 fn find_odown(state: &mut State, m: u16, now: u64, down: bool)
     requires known { m < master_count state.old.plan }
     requires down { down ≡ is_master_down state.old.plan state.old.core m (clock now) }
@@ -60,6 +61,7 @@ fn find_odown(state: &mut State, m: u16, now: u64, down: bool)
     let odown = state.core.is_odown(&state.plan, m, now, down);
     state.core.set_odown(m, now, odown);
     state.core.note_down(m, down, odown);
+    state.core.let_go(&state.plan, m, now);
 }
 
 /// Notes what else the tick found.

@@ -82,7 +82,7 @@ impl Model for Node {
 }
 
 /// The earlier of two moments.
-fn earlier_of(a: Option<u64>, b: Option<u64>) -> Option<u64>
+pub(crate) fn earlier_of(a: Option<u64>, b: Option<u64>) -> Option<u64>
     ensures { result ≡ earlier_of a b }
 {
     match (a, b) {

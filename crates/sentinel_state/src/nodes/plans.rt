@@ -8,7 +8,7 @@ ghost use Rattle.ballot_law.specs.Rosters.{no_member, master_at, master_named, n
 ghost use Rattle.sentinel_rules.specs.Answers.{named};
 ghost use Rattle.sentinel_rules.specs.News.{is_heeded};
 ghost use Rattle.ballot_law.specs.NodePlaces.{first_number, node_numbered};
-ghost use Rattle.sentinel_rules.specs.Profiles.{candidate_place};
+ghost use Rattle.sentinel_rules.specs.Profiles.{candidate_heeded, candidate_place};
 ghost use Rattle.sentinel_rules.specs.Plans.{roster_of, me, group_size, master_count, settings_at, reboot_ms, nodes_of, addr_at, node_place, node_name, node_named};
 
 use ballot_law::{Addr, Hello, Member, Name, NodeName, NodePlace, Roster, RunId};
@@ -266,6 +266,23 @@ impl Plan {
         match candidate {
             Some(id) => self.place_of(id),
             None => None,
+        }
+    }
+
+    /// Whose vote a request asks for, which brings this candidate: by the profile nobody's where it is no Sentinel of
+    /// the roster.
+    pub fn candidate_heeded(&self, candidate: Option<RunId>) -> Option<RunId>
+        ensures { result ≡ candidate_heeded self.now candidate }
+    {
+        match self.profile() {
+            Profile::Strict => candidate,
+            Profile::Redis => {
+                if self.candidate_place(candidate).is_some() {
+                    candidate
+                } else {
+                    None
+                }
+            }
         }
     }
 

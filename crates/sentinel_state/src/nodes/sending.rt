@@ -5,7 +5,8 @@ ghost use Rattle.sentinel_rules.specs.declared.periods.TheConstants.{BUSY_INFO_M
 ghost use Rattle.ballot_law.specs.declared.rosters.TheConstants.{NODES_MAX, SENTINELS_MAX};
 ghost use Rattle.ballot_law.specs.Clocks.{clock};
 ghost use Rattle.sentinel_rules.specs.Parts.{changed_from, frames_from};
-ghost use Rattle.sentinel_rules.specs.Ticks.{is_due, sent_at, ping_period, is_peer_due, peer_after, peer_frames, had_link_down, is_at, is_ping_due, is_info_due, is_hello_due, node_after, node_frames};
+ghost use Rattle.sentinel_rules.specs.States.{is_at};
+ghost use Rattle.sentinel_rules.specs.Ticks.{is_due, sent_at, ping_period, is_peer_due, peer_after, peer_frames, had_link_down, is_ping_due, is_info_due, is_hello_due, node_after, node_frames};
 ghost use Rattle.sentinel_state.specs.Nodes.Room.{added};
 
 use crate::nodes::contacts::wait;
@@ -86,6 +87,8 @@ pub struct Sending {
     pub is_busy: bool,
     /// The place of the replica to which the master was told to hand over.
     pub heir: Option<u16>,
+    /// Whether the node of the configuration is looked at as often as that replica.
+    pub looks: bool,
 }
 
 impl Model for Sending {
@@ -99,6 +102,7 @@ impl Model for Sending {
       card_place = s.card_place;
       is_busy = s.is_busy;
       heir = s.heir;
+      looks = s.looks;
     } };
 
     ghost inverse = { λ s. record {
@@ -107,6 +111,7 @@ impl Model for Sending {
       card_place = s.card_place;
       is_busy = s.is_busy;
       heir = s.heir;
+      looks = s.looks;
     } };
 }
 
@@ -121,7 +126,7 @@ fn had_link_down(info: Option<Info>) -> bool
 }
 
 /// Whether this is the place.
-fn is_at(place: Option<u16>, k: usize) -> bool
+pub(crate) fn is_at(place: Option<u16>, k: usize) -> bool
     ensures { result ≡ is_at place k }
 {
     match place {
@@ -149,15 +154,18 @@ impl Node {
     }
 
     /// Whether INFO is due of the node at a place: each 10 seconds, each second of a replica whose master is down or
-    /// fails over, or whose link was down, and ten times a second of the one to which the master hands over.
+    /// fails over, or whose link was down, and ten times a second of the one to which the master hands over, and of a
+    /// master that may do so.
     fn is_info_due(&self, sending: Sending, k: usize) -> bool
         ensures { result ≡ is_info_due sending k self.now }
     {
-        let is_soon = k != sending.card_place && (sending.is_busy || had_link_down(self.info));
+        let is_card = k == sending.card_place;
+        let is_looked_at = is_at(sending.heir, k) || sending.looks && is_card;
+        let is_soon = !is_card && (sending.is_busy || had_link_down(self.info));
         is_due(
             self.info_sent,
             sending.now,
-            info_period(is_at(sending.heir, k), is_soon),
+            info_period(is_looked_at, is_soon),
         )
     }
 

@@ -1,5 +1,6 @@
-//! Nodes that are played at ports of this machine, with the words of Redis: a master, its replica, and another Sentinel,
-//! as a Sentinel of `watch` meets them. One thread plays all.
+//! Nodes that are played at ports of this machine, with the words of Redis: a master, its replica, and two other
+//! Sentinels, as a Sentinel of `watch` meets them. One of these two gives its vote to whoever asks; the rival, which
+//! stands before it in the roster, votes for itself. One thread plays all.
 
 use ballot_law::NoMemory;
 use resp2::{Frames, OutText, Value, push_bulk, word_of};
@@ -11,8 +12,10 @@ use std::sync::atomic::{AtomicU64, Ordering};
 use std::time::Duration;
 use std::{mem, str, thread};
 
-/// The run ids of the Sentinel that watches, and of the one that is played.
+/// The run ids of the Sentinel that watches, of the rival, and of the other one that is played.
 pub(crate) const OWN_ID: &str = "aaaaaaaaaaaaaaaaaaaaaaaaaaaaaaaaaaaaaaaa";
+
+pub(crate) const RIVAL_ID: &str = "abababababababababababababababababababab";
 
 pub(crate) const PLAYED_ID: &str = "bbbbbbbbbbbbbbbbbbbbbbbbbbbbbbbbbbbbbbbb";
 
@@ -66,7 +69,7 @@ const MESSAGE: &[u8] = b"*3\r\n$7\r\nmessage\r\n$18\r\n__sentinel__:hello\r\n";
 
 /// What another Sentinel's row of the master says of its file.
 const ROW: &[u8] =
-    b"*6\r\n$10\r\nnum-slaves\r\n$1\r\n1\r\n$19\r\nnum-other-sentinels\r\n$1\r\n1\r\n\
+    b"*6\r\n$10\r\nnum-slaves\r\n$1\r\n1\r\n$19\r\nnum-other-sentinels\r\n$1\r\n2\r\n\
 $6\r\nquorum\r\n$1\r\n2\r\n";
 
 /// INFO of a replica that was promoted.
@@ -103,6 +106,7 @@ impl Play {
 #[derive(Clone, Copy)]
 pub(crate) struct Ports {
     pub(crate) own: u16,
+    pub(crate) rival: u16,
     pub(crate) played: u16,
     pub(crate) master: u16,
     pub(crate) replica: u16,
@@ -113,7 +117,19 @@ pub(crate) struct Ports {
 pub(crate) enum Who {
     Master,
     Replica,
+    Rival,
     Sentinel,
+}
+
+impl Who {
+    /// The run id of a Sentinel that is played.
+    fn id(self) -> Option<&'static str> {
+        match self {
+            Who::Rival => Some(RIVAL_ID),
+            Who::Sentinel => Some(PLAYED_ID),
+            Who::Master | Who::Replica => None,
+        }
+    }
 }
 
 /// A hello of this Sentinel, by its port and its run id, of the current epoch and of a configuration, by its node's port
@@ -262,16 +278,22 @@ impl Cast {
         Ok(())
     }
 
-    /// Answers whether the master is down, and gives the vote that is asked for.
+    /// Answers whether the master is down, and gives the vote that is asked for; the rival gives its vote to itself.
     fn answer_question(
         &mut self,
         play: &Play,
+        id: &'static str,
         words: &[Value],
         answers: &mut OutText,
     ) -> Result<(), NoMemory> {
         let is_of_master = has(words, 2, b"127.0.0.1")
             && has(words, 3, self.texts.master_port.as_bytes());
         let (epoch, candidate) = (word_at(words, 4), word_at(words, 5));
+        let leader = if id == RIVAL_ID {
+            id.as_bytes()
+        } else {
+            candidate
+        };
         answers.add(if is_of_master && play.is_silent() {
             b"*3\r\n:1\r\n"
         } else {
@@ -280,26 +302,27 @@ impl Cast {
         if !is_of_master || has(words, 5, b"*") {
             return answers.add(b"$1\r\n*\r\n:0\r\n");
         }
-        self.note_vote(play, candidate, epoch)?;
-        push_bulk(answers, candidate)?;
+        self.note_vote(play, leader, epoch)?;
+        push_bulk(answers, leader)?;
         answers.add(b":")?;
         answers.add(epoch)?;
         answers.add(b"\r\n")
     }
 
-    /// Answers a command that is for a Sentinel.
+    /// Answers a command that is for the Sentinel with this run id.
     fn answer_as_sentinel(
         &mut self,
         play: &Play,
+        id: &'static str,
         words: &[Value],
         answers: &mut OutText,
     ) -> Result<(), NoMemory> {
         let name = word_at(words, 1);
         if name.eq_ignore_ascii_case(b"IS-MASTER-DOWN-BY-ADDR") {
-            return self.answer_question(play, words, answers);
+            return self.answer_question(play, id, words, answers);
         }
         if name.eq_ignore_ascii_case(b"MYID") {
-            return push_bulk(answers, PLAYED_ID.as_bytes());
+            return push_bulk(answers, id.as_bytes());
         }
         if name.eq_ignore_ascii_case(b"MASTER") {
             return answers.add(ROW);
@@ -315,8 +338,10 @@ impl Cast {
         words: &[Value],
         answers: &mut OutText,
     ) -> Result<(), NoMemory> {
-        if who == Who::Sentinel && has(words, 0, b"SENTINEL") {
-            return self.answer_as_sentinel(play, words, answers);
+        if let Some(id) = who.id() {
+            if has(words, 0, b"SENTINEL") {
+                return self.answer_as_sentinel(play, id, words, answers);
+            }
         }
         if has(words, 0, b"INFO") {
             return push_bulk(answers, self.info_of(who).as_bytes());

@@ -1,10 +1,12 @@
-//! A Sentinel of `watch` beside a master, a replica and another Sentinel that are played: by sockets alone both Sentinels
-//! find each other up, each gives the other its vote, and the one that watches replaces the master and tells so.
+//! A Sentinel of `watch` beside a master, a replica and two other Sentinels that are played, of which one votes for
+//! itself: by sockets alone it finds both up, gives the second its vote and gets that one's, which elects it, and replaces
+//! the master and tells so. Were its connections to both one and the same, one of the two would be counted twice.
 
 use crate::tests::clients::{ADDRESS, SENTINELS, client_at, waits_for};
 use crate::tests::confs::{free_port, listening};
 use crate::tests::played_nodes::{
-    ALL_HELLOS, OVER, OWN_ID, PLAYED_EPOCH, PLAYED_ID, Play, PlayedNodes, Plays, Ports, SILENT, Who,
+    ALL_HELLOS, OVER, OWN_ID, PLAYED_EPOCH, PLAYED_ID, Play, PlayedNodes, Plays, Ports, RIVAL_ID,
+    SILENT, Who,
 };
 use crate::tests::told_files::{MOST_LOOKS, Told, ToldFile, wait_for};
 use client_port::{Admission, PortAddress, ReadsTimes};
@@ -38,7 +40,7 @@ const SUBSCRIBED: &[u8] = b"*3\r\n$9\r\nsubscribe\r\n$14\r\n+switch-master\r\n:1
 struct Seen {
     /// A hello of the other Sentinel raised the current epoch.
     heard: bool,
-    /// The other Sentinel is up, before the master is silent and after the switch, when it would be down if it had never
+    /// The other Sentinels are up, before the master is silent and after the switch, when one would be down that had never
     /// answered.
     up: (bool, bool),
     /// The other Sentinel was given the vote that it asked for, which was stored.
@@ -78,11 +80,11 @@ fn given_in(alloc: Global, epoch: u64) -> io::Result<String> {
     Ok(format!(in alloc; "*3\r\n:0\r\n$40\r\n{PLAYED_ID}\r\n:{epoch}\r\n")?)
 }
 
-/// How the row of the Sentinel that is played has it, if that is up.
-fn row_of(alloc: Global, port: u16) -> io::Result<String> {
+/// How the row of a Sentinel that is played has it, if that is up.
+fn row_of(alloc: Global, port: u16, id: &str) -> io::Result<String> {
     let port = bulk_number(alloc, u64::from(port))?;
     Ok(format!(in alloc;
-        "$4\r\nport\r\n{port}$5\r\nrunid\r\n$40\r\n{PLAYED_ID}\r\n$5\r\nflags\r\n$8\r\nsentinel\r\n"
+        "$4\r\nport\r\n{port}$5\r\nrunid\r\n$40\r\n{id}\r\n$5\r\nflags\r\n$8\r\nsentinel\r\n"
     )?)
 }
 
@@ -159,10 +161,16 @@ impl<T: Read + Write> Clients<T> {
         is_answered(&mut self.client, ADDRESS, wanted.as_bytes())
     }
 
-    /// Whether the other Sentinel is up.
-    fn is_up<R: Clock>(&mut self, rt: &R) -> io::Result<bool> {
-        let row = row_of(self.alloc, self.ports.played)?;
+    /// Whether the other Sentinel with this run id, at this port, is up.
+    fn is_up<R: Clock>(&mut self, rt: &R, port: u16, id: &str) -> io::Result<bool> {
+        let row = row_of(self.alloc, port, id)?;
         waits_for(rt, &mut self.client, SENTINELS, row.as_str(), true)
+    }
+
+    /// Whether both other Sentinels are up.
+    fn are_up<R: Clock>(&mut self, rt: &R) -> io::Result<bool> {
+        let Ports { rival, played, .. } = self.ports;
+        Ok(self.is_up(rt, rival, RIVAL_ID)? && self.is_up(rt, played, PLAYED_ID)?)
     }
 
     /// Whether the file has the new master, in the epoch of both votes.
@@ -179,7 +187,7 @@ impl<T: Read + Write> Clients<T> {
         let master = self.ports.master;
         Ok(Seen {
             heard: wait_for(rt, &self.told.current, PLAYED_EPOCH),
-            up: (self.is_up(rt)?, false),
+            up: (self.are_up(rt)?, false),
             voted: is_given(rt, self.alloc, &mut self.client, master)?
                 && self.told.voted.load(Ordering::SeqCst) == ASKED_EPOCH,
             shown: (self.is_shown(master)?, false),
@@ -196,7 +204,7 @@ impl<T: Read + Write> Clients<T> {
             told: seen.told && reads(&mut self.listener, switch.as_bytes())?,
             stored: self.is_stored(play),
             shown: (seen.shown.0, self.is_shown(self.ports.replica)?),
-            up: (seen.up.0, self.is_up(rt)?),
+            up: (seen.up.0, self.are_up(rt)?),
             ..seen
         })
     }
@@ -271,6 +279,7 @@ where
 fn text_of(alloc: Global, ports: Ports) -> io::Result<String> {
     let Ports {
         own,
+        rival,
         played,
         master,
         replica,
@@ -282,6 +291,7 @@ sentinel monitor mymaster 127.0.0.1 {master} 2\n\
 sentinel down-after-milliseconds mymaster 2000\n\
 sentinel failover-timeout mymaster 3000\n\
 sentinel known-replica mymaster 127.0.0.1 {replica}\n\
+sentinel known-sentinel mymaster 127.0.0.1 {rival} {RIVAL_ID}\n\
 sentinel known-sentinel mymaster 127.0.0.1 {played} {PLAYED_ID}\n"
     )?)
 }
@@ -335,6 +345,7 @@ const WANTED: Seen = Seen {
 /// Who listens where nodes are played.
 #[derive(Drop)]
 struct Heard {
+    rival: TcpListener,
     played: TcpListener,
     master: TcpListener,
     replica: TcpListener,
@@ -347,6 +358,7 @@ impl Heard {
         R: Net<Stream = TcpStream, Listener = TcpListener>,
     {
         Ok(Heard {
+            rival: listening(rt)?,
             played: listening(rt)?,
             master: listening(rt)?,
             replica: listening(rt)?,
@@ -357,6 +369,7 @@ impl Heard {
     fn ports(&self, own: u16) -> io::Result<Ports> {
         Ok(Ports {
             own,
+            rival: self.rival.local_addr()?.port(),
             played: self.played.local_addr()?.port(),
             master: self.master.local_addr()?.port(),
             replica: self.replica.local_addr()?.port(),
@@ -366,11 +379,13 @@ impl Heard {
     /// The nodes, which listen there.
     fn nodes(self, alloc: Global, ports: Ports) -> Result<PlayedNodes, Fail> {
         let Heard {
+            rival,
             played,
             master,
             replica,
         } = self;
         let mut nodes = PlayedNodes::at(alloc, ports)?;
+        nodes.add(Who::Rival, rival)?;
         nodes.add(Who::Sentinel, played)?;
         nodes.add(Who::Master, master)?;
         nodes.add(Who::Replica, replica)?;

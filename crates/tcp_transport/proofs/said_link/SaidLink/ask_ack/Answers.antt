@@ -6,6 +6,6 @@ use Rattle.tcp_transport.proofs.said_link.SaidLink.ask_ack.Goals as goal
 
 pub invariant_of-self : goal.invariant_of-self
 invariant_of-self g c =
-    whole_ack g.J.Which.said _ c.args.now c.in-StoreAt.field-0 c.self.inside.link c.ask_ack.new.self c.self.invariant
+    whole_ack g.J.Which.said g.J.Which.reaches _ c.args.now c.in-StoreAt.field-0 c.self.inside.link c.ask_ack.new.self c.self.invariant
     (subst (λ (target : Target). target.listens ≡ false) c.target-target.ensures c.if-target.false)
     (subst (λ (target : Target). target.node ≡ StoreAt c.in-StoreAt.field-0) c.target-target.ensures c.in-StoreAt.is) c.in-Ok.ensures.shut c.in-Ok.ensures.ok

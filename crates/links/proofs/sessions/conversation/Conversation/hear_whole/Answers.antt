@@ -1,4 +1,5 @@
 use Rattle.std.proofs.Common.{◌∙◌, Ok, Err}
+use Rattle.links.proofs.SessionsLemmas.Counts.{grows_twice}
 use Rattle.links.proofs.SessionsLemmas.Stepping.{went_on, came_to_the_end, way_before, steps_after}
 use Rattle.links.proofs.sessions.conversation.Conversation.hear_whole.Goals as goal
 
@@ -13,6 +14,7 @@ loop-fault-preserved c =
       listens = c.hear_next.ensures.listens ∙ so_far.listens;
       unsent = c.hear_next.ensures.unsent ∙ so_far.unsent;
       is_open = c.in-Ok-true.ensures.open;
+      grows = grows_twice c.args.heard.now.items c.loop-fault.heard.items c.hear_next.new.heard.items so_far.grows c.hear_next.ensures.grows;
       heard = λ stream asked before events is a.
           let on = so_far.heard stream asked before events is a in
           let next = c.in-Ok-true.ensures.heard stream asked before on.0 on.1 (way_before mid.node first.node mid.listens first.listens asked stream mid.frames.held on.0

@@ -1,0 +1,277 @@
+//! A failover that comes to nothing, or goes on in another way, apart from the rows of its table: by the profile of
+//! Redis alone.
+
+ghost use Rattle.std.specs.Prelude.{◌≡◌, ◌<◌, ◌≤◌, ◌||◌, false, None, length, if◌then◌else◌};
+ghost use Rattle.ballot_law.specs.declared.rosters.TheConstants.{SENTINELS_MAX};
+ghost use Rattle.ballot_law.specs.Clocks.{clock};
+ghost use Rattle.ballot_law.specs.VotesHeard.{count_in, kept_at};
+ghost use Rattle.failover_states.specs.Calls.{recalled};
+ghost use Rattle.failover_states.specs.Failovers.{ended};
+ghost use Rattle.sentinel_rules.specs.declared.periods.TheConstants.{SWITCH_MS};
+ghost use Rattle.sentinel_rules.specs.Endings.{is_untold, is_well, is_needless, is_stale, is_given, has_answered, may_answer, answers, awaited_answers, has_won, is_split_in, is_split, is_vain, given_up, is_overtaken, taken_up, let_go};
+ghost use Rattle.sentinel_rules.specs.Plans.{master_count};
+ghost use Rattle.sentinel_rules.specs.Profiles.{marked};
+ghost use Rattle.sentinel_rules.specs.States.{failover_of, is_awaiting, is_planned, master_of};
+
+use crate::cores::Core;
+use crate::masters::Master;
+use crate::nodes::Plan;
+use crate::notices::MasterNotice;
+use crate::switches::{is_awaiting, is_electing, says_replica};
+use ballot_law::{HeardVote, RunId};
+use failover_states::FailoverState;
+use sentinel_rules::{Profile, SWITCH_MS};
+
+/// Whether no node was told anything yet in this state, so that the failover can end as if it hadn't begun.
+fn is_untold(stage: FailoverState) -> bool
+    ensures { result ≡ is_untold stage }
+{
+    match stage {
+        FailoverState::WaitStart { .. } => true,
+        FailoverState::SelectReplica { .. } => true,
+        FailoverState::SendPromotion { .. } => true,
+        FailoverState::Idle => false,
+        FailoverState::WaitPromotion { .. } => false,
+        FailoverState::ReconfReplicas { .. } => false,
+        FailoverState::UpdateConfig { .. } => false,
+    }
+}
+
+/// Whether this is a vote of an epoch, or of a later one.
+fn is_given(epoch: u64, vote: Option<HeardVote>) -> bool
+    ensures { result ≡ is_given epoch vote }
+{
+    match vote {
+        Some(vote) => epoch <= vote.epoch,
+        None => false,
+    }
+}
+
+impl Master {
+    /// Its failover ends; the next one begins at this moment at the earliest.
+    #[tactic(auto, using(crate::proofs::FewPlaces::few_ended))]
+    fn give_up(&mut self, at: u64, planned: Option<u64>)
+        ensures { self.new ≡ record self.old {
+          failover = marked at (ended self.old.failover);
+          planned = planned;
+        } }
+    {
+        self.failover.end();
+        self.failover.mark(at);
+        self.planned = planned;
+    }
+
+    /// The choice of its failover is to be told once more, and of no switch.
+    #[tactic(auto, using(crate::proofs::FewPlaces::few_recalled))]
+    fn take_up(&mut self, now: u64)
+        ensures { self.new ≡ record self.old {
+          failover = recalled (clock now) self.old.failover;
+          planned = None;
+          refused = false;
+        } }
+    {
+        self.failover.recall(now);
+        self.planned = None;
+        self.refused = false;
+    }
+}
+
+impl Core {
+    /// Whether a failover of a master is on its way to the new one: its choice isn't the master yet.
+    pub fn is_on_its_way(&self, m: u16) -> bool
+        ensures { result ≡ (is_untold (failover_of self.now m).state || is_awaiting (failover_of self.now m).state) }
+    {
+        let stage = self.stage(m);
+        is_untold(stage) || is_awaiting(stage)
+    }
+
+    /// Whether a master is up and connected, and doesn't say that it is a replica.
+    fn is_well(&self, plan: &Plan, m: u16, now: u64) -> bool
+        ensures { result ≡ is_well plan.now self.now m (clock now) }
+    {
+        let card_at = self.card_place(plan, m);
+        !(self.is_master_down(plan, m, now)
+            || self.is_lost(m, card_at)
+            || says_replica(self.info(m, card_at)))
+    }
+
+    /// Whether a failover was begun since the master was down, and it is back.
+    fn is_needless(&self, plan: &Plan, m: u16, now: u64) -> bool
+        ensures { result ≡ is_needless plan.now self.now m (clock now) }
+    {
+        !self.is_planned(m) && self.is_well(plan, m, now)
+    }
+
+    /// Whether a failover is of a switch that was asked for too long ago.
+    fn is_stale(&self, m: u16, now: u64) -> bool
+        ensures { result ≡ is_stale self.now m (clock now) }
+    {
+        self.is_planned(m) && !self.was_wished(m, SWITCH_MS, now)
+    }
+
+    /// Whether the Sentinel at a place has answered a campaign of this epoch.
+    fn has_answered(&self, m: u16, epoch: u64, place: u16) -> bool
+        ensures { result ≡ has_answered self.now m epoch place }
+    {
+        is_given(epoch, self.heard_vote(m, place))
+    }
+
+    /// Whether it is another one, which is up and may answer yet.
+    fn may_answer(&self, plan: &Plan, m: u16, now: u64, epoch: u64, place: u16) -> bool
+        ensures { result ≡ may_answer plan.now self.now m (clock now) epoch place }
+    {
+        place != plan.place()
+            && !self.is_peer_down(plan, now, place as usize)
+            && !self.has_answered(m, epoch, place)
+    }
+
+    /// How many have answered a campaign of this epoch.
+    fn answers(&self, plan: &Plan, m: u16, epoch: u64) -> u32
+        ensures value { result ≡ answers plan.now self.now m epoch }
+        ensures few { result ≤ SENTINELS_MAX }
+    {
+        let mut count = 0;
+        for place in 0..plan.group_size() {
+            if self.has_answered(m, epoch, place) {
+                count += 1;
+            }
+        }
+        count
+    }
+
+    /// How many may answer it yet.
+    fn awaited_answers(&self, plan: &Plan, m: u16, now: u64, epoch: u64) -> u32
+        ensures { result ≡ awaited_answers plan.now self.now m (clock now) epoch }
+    {
+        let mut count = 0;
+        for place in 0..plan.group_size() {
+            if self.may_answer(plan, m, now, epoch, place) {
+                count += 1;
+            }
+        }
+        count
+    }
+
+    /// How many of the votes heard for a master at an epoch are for a candidate.
+    fn count_of(&self, m: u16, epoch: u64, candidate: RunId) -> u32
+        ensures { result ≡ count_in (kept_at (master_of self.now m).heard) (length (master_of self.now m).heard) epoch candidate }
+    {
+        match self.masters.get(m as usize) {
+            Some(master) => master.heard.count(epoch, candidate),
+            None => 0,
+        }
+    }
+
+    /// Whether the votes heard elect a candidate, with the own one.
+    fn has_won(&self, plan: &Plan, m: u16, epoch: u64, candidate: RunId) -> bool
+        requires { m < master_count plan.now }
+        ensures { result ≡ has_won plan.now self.now m epoch candidate }
+    {
+        let count = self.count_of(m, epoch, candidate);
+        self.book(m).elects(count, epoch, candidate, plan.need(m))
+    }
+
+    /// Whether as many have answered as could elect, all have that are up, and no candidate has won.
+    #[tactic(auto, unfolding(sentinel_rules::specs::Endings::is_split_in))]
+    fn is_split_in(&self, plan: &Plan, m: u16, now: u64, epoch: u64) -> bool
+        requires { m < master_count plan.now }
+        ensures { result ≡ is_split_in plan.now self.now m (clock now) epoch }
+    {
+        plan.need(m) <= self.answers(plan, m, epoch) + 1
+            && self.awaited_answers(plan, m, now, epoch) == 0
+            && !(self.has_won(plan, m, epoch, plan.me())
+                || self.has_won(plan, m, epoch, self.pick(plan, m, epoch)))
+    }
+
+    /// Whether the votes of a campaign are split, so that nobody is elected in its epoch any more.
+    fn is_split(&self, plan: &Plan, m: u16, now: u64) -> bool
+        requires { m < master_count plan.now }
+        ensures { result ≡ is_split plan.now self.now m (clock now) }
+    {
+        is_electing(self.stage(m)) && self.is_split_in(plan, m, now, self.campaign_epoch(m))
+    }
+
+    /// Whether a failover comes to nothing, and ends at once.
+    fn is_vain(&self, plan: &Plan, m: u16, now: u64) -> bool
+        requires { m < master_count plan.now }
+        ensures { result ≡ is_vain plan.now self.now m (clock now) }
+    {
+        is_untold(self.stage(m))
+            && (self.is_needless(plan, m, now)
+                || self.is_stale(m, now)
+                || self.is_split(plan, m, now))
+    }
+
+    /// What is kept of the switch of a failover that ends: it is wished for still.
+    fn planned_after(&self, m: u16) -> Option<u64>
+        ensures { result ≡ (if is_planned self.now m then None else (master_of self.now m).planned) }
+    {
+        if self.is_planned(m) {
+            return None;
+        }
+        match self.masters.get(m as usize) {
+            Some(master) => master.planned,
+            None => None,
+        }
+    }
+
+    /// Ends a failover that comes to nothing: the next one begins a pause later.
+    fn give_up(&mut self, plan: &Plan, m: u16, now: u64)
+        ensures { self.new ≡ given_up plan.now m (clock now) self.old }
+    {
+        self.note_vain(plan, m, now);
+        let at = self.rested_at(plan, m, now, 0);
+        let planned = self.planned_after(m);
+        if let Some(master) = self.masters.get_mut(m as usize) {
+            master.give_up(at, planned);
+        }
+    }
+
+    /// Notes why a failover comes to nothing.
+    fn note_vain(&mut self, plan: &Plan, m: u16, now: u64)
+        ensures { self.new ≡ self.old }
+    {
+        let what = if self.is_needless(plan, m, now) {
+            MasterNotice::Back
+        } else if self.is_stale(m, now) {
+            MasterNotice::Late
+        } else {
+            MasterNotice::NotElected
+        };
+        self.note_master_if(true, m, what);
+    }
+
+    /// Whether a master that was told to hand over is objectively down, and the choice is there.
+    fn is_overtaken(&self, plan: &Plan, m: u16, now: u64) -> bool
+        ensures { result ≡ is_overtaken plan.now self.now m (clock now) }
+    {
+        self.is_handed(m) && self.was_odown(m) && !self.is_choice_lost(plan, m, now)
+    }
+
+    /// The choice of a failover is to be told once more, and of no switch.
+    fn take_up(&mut self, m: u16, now: u64)
+        ensures { self.new ≡ taken_up m (clock now) self.old }
+    {
+        if let Some(master) = self.masters.get_mut(m as usize) {
+            master.take_up(now);
+        }
+    }
+
+    /// Ends a failover of a master that comes to nothing, and has one of a switch go on as any other where the master
+    /// is objectively down before it handed over; nothing else changes.
+    pub fn let_go(&mut self, plan: &Plan, m: u16, now: u64)
+        requires { m < master_count plan.now }
+        ensures { self.new ≡ let_go plan.now m (clock now) self.old }
+    {
+        match plan.profile() {
+            Profile::Strict => {}
+            Profile::Redis => {
+                if self.is_vain(plan, m, now) {
+                    self.give_up(plan, m, now);
+                } else if self.is_overtaken(plan, m, now) {
+                    self.take_up(m, now);
+                }
+            }
+        }
+    }
+}
