@@ -17,7 +17,7 @@ use std::process::ExitCode;
 
 /// The text of the file at the path, and what it says. A file that is refused is told, with all that is wrong with it,
 /// and the status tells it too.
-fn conf_at(rt: HostRuntime, path: &str) -> Result<(FileText, Conf), ExitCode> {
+pub(crate) fn conf_at(rt: HostRuntime, path: &str) -> Result<(FileText, Conf), ExitCode> {
     let text = text_at(rt, path)?;
     match read(rt.alloc(), text.as_slice()) {
         Ok(conf) => Ok((text, conf)),

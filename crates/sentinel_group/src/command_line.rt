@@ -178,6 +178,41 @@ fn serve<'a>(alloc: Global) -> Result<Command<'a>, AllocError> {
         .arg(conf_files(alloc))
 }
 
+/// The words of `status`.
+fn status<'a>(alloc: Global) -> Result<Command<'a>, AllocError> {
+    let wait = Arg::new(alloc, "wait")
+        .long("wait")
+        .value_name("seconds")
+        .value_parser(value_parser!(u32))
+        .help("Looks again each half second until the group is well, for so many seconds at most");
+    let watch = Arg::new(alloc, "watch")
+        .long("watch")
+        .action(ArgAction::SetTrue)
+        .help("Looks again each second, until a signal ends it")
+        .conflicts_with("wait")?;
+    let json = Arg::new(alloc, "json")
+        .long("json")
+        .action(ArgAction::SetTrue)
+        .help("Prints the same as one JSON object in one line");
+    let password = Arg::new(alloc, "pass-file")
+        .long("pass-file")
+        .value_name("file")
+        .help("The file with the password of the Sentinels' ports, a line, where the conf has none");
+    let group = Arg::new(alloc, "group")
+        .required(true)
+        .num_args(1..)
+        .action(ArgAction::Append)
+        .value_name("conf or ip:port")
+        .help("The sentinel.conf of one Sentinel, or the addresses of some; their ports are 26379 where they aren't said");
+    Command::new(alloc, "status")
+        .about("Asks all nodes of a group that runs, and tells what isn't well, and what to do")
+        .arg(wait)?
+        .arg(watch)?
+        .arg(json)?
+        .arg(password)?
+        .arg(group)
+}
+
 /// The words of `watch`.
 fn watch<'a>(alloc: Global) -> Result<Command<'a>, AllocError> {
     let quiet = Arg::new(alloc, "quiet")
@@ -252,6 +287,7 @@ pub(crate) fn command<'a>(alloc: Global) -> Result<Command<'a>, AllocError> {
         .subcommand(new_id(alloc))?
         .subcommand(replay(alloc)?)?
         .subcommand(serve(alloc)?)?
+        .subcommand(status(alloc)?)?
         .subcommand(watch(alloc)?)
 }
 

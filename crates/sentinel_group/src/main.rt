@@ -1,7 +1,7 @@
 //! The program `sentinel_group`: `answer` serves the commands of standard input on standard output, `serve` runs a
 //! group with its ports, `watch` runs one Sentinel over real Redis servers, `replay` plays a story of a group, `check`
-//! tells what group files make, `new-id` prints a run id for a new one, `new-group` writes the files of a new group,
-//! `change` those of a changed one.
+//! tells what group files make, `status` whether a group that runs is well, `new-id` prints a run id for a new one,
+//! `new-group` writes the files of a new group, `change` those of a changed one.
 #![tactic(auto)]
 
 mod change_orders;
@@ -14,6 +14,7 @@ mod conf_paths;
 mod failures;
 mod group_files;
 mod locks;
+mod looking;
 mod mending;
 mod new_files;
 mod new_folders;
@@ -39,6 +40,7 @@ use crate::conf_paths::ConfPath;
 use crate::failures::fail;
 use crate::group_files::file_of;
 use crate::locks::{lock_file, refuse_lock};
+use crate::looking::status;
 use crate::new_groups::new_group;
 use crate::new_ids::new_id;
 use crate::replaying::replay;
@@ -155,6 +157,7 @@ fn main(rt: HostRuntime) -> ExitCode {
                 drop(noting);
                 tell_end(rt, ended, writer.wait(&rt))
             }
+            Some(("status", words)) => status(rt, words),
             Some(("watch", words)) => {
                 // (as above)
                 let Ok((queue, writer)) = NoteQueue::open(rt, rt.alloc(), NoteForm::Bare) else {

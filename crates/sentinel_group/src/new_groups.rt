@@ -72,7 +72,11 @@ pub(crate) fn address_of(rt: HostRuntime, word: &str, whose: Named) -> Result<Ad
 }
 
 /// The addresses that these words spell.
-fn addresses_of(rt: HostRuntime, words: &[&str], whose: Named) -> Result<Vec<Addr>, ExitCode> {
+pub(crate) fn addresses_of(
+    rt: HostRuntime,
+    words: &[&str],
+    whose: Named,
+) -> Result<Vec<Addr>, ExitCode> {
     let mut addrs = Vec::new(rt.alloc());
     for word in words {
         if addrs.push(address_of(rt, word, whose)?).is_err() {
@@ -111,7 +115,7 @@ fn members_at(rt: HostRuntime, addrs: &[Addr]) -> Result<Vec<Member>, ExitCode> 
 }
 
 /// The password that is the first line of the file at the path.
-fn password_at(rt: HostRuntime, path: &str) -> Result<Vec<u8>, ExitCode> {
+pub(crate) fn password_at(rt: HostRuntime, path: &str) -> Result<Vec<u8>, ExitCode> {
     let text = text_at(rt, path)?;
     let bytes = text.as_slice();
     let line = bytes.strip_suffix(b"\n").unwrap_or(bytes);

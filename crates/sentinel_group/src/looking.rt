@@ -1,0 +1,145 @@
+//! `status`: whether a group that runs is well, at one look.
+
+use crate::checking::conf_at;
+use crate::command_line::REFUSED_WORDS;
+use crate::failures::fail;
+use crate::new_groups::{Named, addresses_of, password_at, want_memory};
+use crate::watching::refuse_watch;
+use ballot_law::NoMemory;
+use clap::ArgMatches;
+use conf_check::sentinel_address;
+use group_status::{AskFault, Status, Targets, ask_group};
+use sentinel_conf::read_watch;
+use sentinel_core::ServeFault;
+use std::io::{IsTerminal, Write};
+use std::process::ExitCode;
+use std::thread;
+use std::time::{Duration, Instant};
+
+/// How long it is between two looks of `--wait`, in milliseconds.
+const WAIT_MS: u64 = 500;
+
+/// How long it is between two pages of `--watch`, in milliseconds.
+const WATCH_MS: u64 = 1_000;
+
+/// What a terminal shows as an empty page.
+const CLEAR: &str = "\x1b[H\x1b[2J";
+
+/// What is given, or that memory was refused, which the status tells.
+fn held<T: Drop>(rt: HostRuntime, made: Result<T, NoMemory>) -> Result<T, ExitCode> {
+    match made {
+        Ok(made) => Ok(made),
+        Err(_) => Err(want_memory(rt)),
+    }
+}
+
+/// The nodes of the group of the file at the path. A file that is refused is told, with all that is wrong with it, and
+/// the status tells it too.
+fn targets_of_conf(rt: HostRuntime, path: &str, pass: &[u8]) -> Result<Targets, ExitCode> {
+    let (text, conf) = conf_at(rt, path)?;
+    match read_watch(rt.alloc(), &conf, text.as_slice()) {
+        Ok(watch) => held(rt, Targets::of_conf(rt.alloc(), &conf, &watch, pass)),
+        Err(fault) => Err(refuse_watch(rt, path, &conf, text.as_slice(), fault)),
+    }
+}
+
+/// The nodes to ask that the words name: those of the group of one file, or the Sentinels at these addresses.
+fn targets_of(rt: HostRuntime, words: &ArgMatches) -> Result<Targets, ExitCode> {
+    let pass = match words.get_str("pass-file") {
+        Some(path) => password_at(rt, path)?,
+        None => Vec::new(rt.alloc()),
+    };
+    let named = words.get_strs("group").unwrap_or(&[]);
+    let is_address = |word: &&str| sentinel_address(word.as_bytes()).is_some();
+    match named {
+        [path] if !is_address(path) => targets_of_conf(rt, path, &pass),
+        named if named.iter().any(is_address) => {
+            let addrs = addresses_of(rt, named, Named::Sentinel)?;
+            held(rt, Targets::of_addresses(rt.alloc(), &addrs, &pass))
+        }
+        _ => {
+            let _ = eprintln!(rt; "sentinel_group: status takes one conf, or addresses of Sentinels");
+            Err(ExitCode::from(REFUSED_WORDS))
+        }
+    }
+}
+
+/// Looks at the group once.
+fn look(rt: HostRuntime, targets: &Targets) -> Result<Status, ExitCode> {
+    match ask_group(&rt, rt.alloc(), targets) {
+        Ok(group) => held(rt, Status::of(rt.alloc(), group)),
+        Err(AskFault::NoMemory) => Err(want_memory(rt)),
+        Err(AskFault::System) => Err(fail(&rt, ServeFault::Read)),
+    }
+}
+
+/// Looks at the group until it is well, or so many seconds are over: what was seen last.
+fn look_until_well(rt: HostRuntime, targets: &Targets, seconds: u32) -> Result<Status, ExitCode> {
+    let Ok(start) = Instant::now(&rt) else {
+        return Err(fail(&rt, ServeFault::Read));
+    };
+    let most = Duration::from_secs(u64::from(seconds));
+    let mut status = look(rt, targets)?;
+    for _ in 0..u64::MAX {
+        let is_late = start.elapsed(&rt).map_or(true, |took| took >= most);
+        if status.is_well() || is_late {
+            break;
+        }
+        thread::sleep(&rt, Duration::from_millis(WAIT_MS));
+        status = look(rt, targets)?;
+    }
+    Ok(status)
+}
+
+/// Writes what was seen to standard output, as a page or as JSON, after `front`.
+fn tell_status(rt: HostRuntime, front: &str, status: &Status, json: bool) -> Result<(), ExitCode> {
+    let text = if json {
+        held(rt, status.json(rt.alloc()))?
+    } else {
+        held(rt, status.page(rt.alloc()))?
+    };
+    let mut out = rt.stdout();
+    let written = out
+        .write_all(front.as_bytes())
+        .and_then(|()| out.write_all(text.as_bytes()));
+    match written {
+        Ok(()) => Ok(()),
+        Err(_) => Err(fail(&rt, ServeFault::Write)),
+    }
+}
+
+/// Looks at the group each second, and writes what is seen, until a signal ends it or nothing can be written.
+fn watch_status(rt: HostRuntime, targets: &Targets, json: bool) -> Result<ExitCode, ExitCode> {
+    let front = if rt.stdout().is_terminal() && !json {
+        CLEAR
+    } else {
+        ""
+    };
+    for _ in 0..u64::MAX {
+        let status = look(rt, targets)?;
+        tell_status(rt, front, &status, json)?;
+        thread::sleep(&rt, Duration::from_millis(WATCH_MS));
+    }
+    Ok(ExitCode::SUCCESS)
+}
+
+/// Looks at the group as the words say, and tells it.
+fn tell_group(rt: HostRuntime, words: &ArgMatches) -> Result<ExitCode, ExitCode> {
+    let targets = targets_of(rt, words)?;
+    let json = words.get_flag("json");
+    if words.get_flag("watch") {
+        return watch_status(rt, &targets, json);
+    }
+    let seconds = words.get_one::<u32>("wait").unwrap_or(0);
+    let status = look_until_well(rt, &targets, seconds)?;
+    tell_status(rt, "", &status, json)?;
+    Ok(ExitCode::from(status.exit_status()))
+}
+
+/// Tells whether the group is well that the words name: with status 0, or with status 1 what isn't.
+pub(crate) fn status(rt: HostRuntime, words: &ArgMatches) -> ExitCode {
+    match tell_group(rt, words) {
+        Ok(status) => status,
+        Err(status) => status,
+    }
+}
