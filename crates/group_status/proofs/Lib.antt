@@ -1,1 +1,2 @@
+mod AllSaid
 mod WellGroups

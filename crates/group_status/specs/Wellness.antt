@@ -1,5 +1,5 @@
 -- When a thing that is looked at in a group is well, and what isn't.
-use Rattle.std.specs.Prelude.{ℕ, Bool, true, false, Option, Some, None, List, ◌&&◌, ◌||◌, ◌==◌, ◌≡◌, nat_lt, not, filter, is_none, if◌then◌else◌}
+use Rattle.std.specs.Prelude.{Bool, true, Option, Some, None, List, ◌&&◌, ◌||◌, ◌==◌, ◌≡◌, nat_lt, not, filter, is_none, if◌then◌else◌}
 use Rattle.std.specs.List.{AllByRecursion}
 use Rattle.ballot_law.specs.declared.addresses.Addr.{Addr}
 use Rattle.ballot_law.specs.Orders.{same_addr, same_id}

@@ -152,6 +152,12 @@ impl Group {
         newest
     }
 
+    /// Whether this data node is its master's, by the newest configuration.
+    pub(crate) fn leads(&self, node: &NodeFacts) -> bool {
+        self.newest(&node.master)
+            .map_or(false, |newest| newest.addr == node.addr)
+    }
+
     /// The address of the Sentinel with this run id.
     pub(crate) fn sentinel_with(&self, id: RunId) -> Option<Addr> {
         for facts in &self.sentinels {

@@ -1,8 +1,12 @@
 //! The list of what is looked at in a group.
 
+ghost use Rattle.std.specs.Prelude.{◌≡◌, map, IfOk};
+ghost use Rattle.group_status.specs.Wellness.{IsWellGroup};
+ghost use Rattle.group_status.specs.Saying.{trouble_of, asked_trouble, HaveAllSaid};
+
 use crate::group::{Group, Newest, NodeFacts, SentinelFacts};
 use crate::matters::Matter;
-use crate::said::{MasterSaid, NodeSaid, SentinelSaid};
+use crate::said::{MasterSaid, NodeSaid, SentinelSaid, Trouble};
 use ballot_law::{Addr, Name, NoMemory};
 use std::alloc::Global;
 
@@ -13,8 +17,52 @@ struct MatterList<'a> {
     list: Vec<Matter>,
 }
 
-/// All that is looked at in a group: of each Sentinel, of each data node, of each master's replicas, and of the group.
-pub(crate) fn matters_of(alloc: Global, group: &Group) -> Result<Vec<Matter>, NoMemory> {
+/// Why a node has said nothing; none where it has said something.
+fn trouble_of<T>(said: &Result<T, Trouble>) -> Option<Trouble>
+    ensures { result ≡ trouble_of said.now }
+{
+    match said {
+        Ok(_) => None,
+        Err(trouble) => Some(*trouble),
+    }
+}
+
+/// Whether each Sentinel said something.
+fn sentinels_reached(alloc: Global, sentinels: &[SentinelFacts]) -> Result<Vec<Matter>, NoMemory>
+    ensures { IfOk result (λ list. map asked_trouble list.items ≡ map (λ facts. trouble_of facts.said) sentinels.now) }
+{
+    let mut list = Vec::new(alloc);
+    let mut rest = sentinels;
+    while let [facts, more @ ..] = rest {
+        list.push(Matter::SentinelReached {
+            sentinel: facts.addr,
+            trouble: trouble_of(&facts.said),
+        })?;
+        rest = more;
+    }
+    Ok(list)
+}
+
+/// Whether each of these data nodes said something.
+fn nodes_reached(alloc: Global, group: &Group, nodes: &[NodeFacts]) -> Result<Vec<Matter>, NoMemory>
+    ensures { IfOk result (λ list. map asked_trouble list.items ≡ map (λ facts. trouble_of facts.said) nodes.now) }
+{
+    let mut list = Vec::new(alloc);
+    let mut rest = nodes;
+    while let [facts, more @ ..] = rest {
+        list.push(Matter::NodeReached {
+            node: facts.addr,
+            master: facts.master,
+            leads: group.leads(facts),
+            trouble: trouble_of(&facts.said),
+        })?;
+        rest = more;
+    }
+    Ok(list)
+}
+
+/// What is looked at in what the nodes said.
+fn matters_said(alloc: Global, group: &Group) -> Result<Vec<Matter>, NoMemory> {
     let list = Vec::new(alloc);
     let mut matters = MatterList { group, list };
     let count = group.masters.len() as u64;
@@ -22,12 +70,26 @@ pub(crate) fn matters_of(alloc: Global, group: &Group) -> Result<Vec<Matter>, No
     let count = group.left_out;
     matters.add(Matter::LeftOut { count })?;
     for facts in &group.sentinels {
-        matters.add_sentinel(facts)?;
+        if let Ok(said) = &facts.said {
+            matters.add_sentinel(facts, said)?;
+        }
     }
     for master in &group.masters {
         matters.add_master(*master)?;
     }
     Ok(matters.list)
+}
+
+/// All that is looked at in a group: whether each Sentinel and each data node said something, and what they said.
+pub(crate) fn matters_of(alloc: Global, group: &Group) -> Result<Vec<Matter>, NoMemory>
+    ensures { IfOk result (λ list. IsWellGroup list.items → HaveAllSaid group.now) }
+{
+    let mut list = sentinels_reached(alloc, &group.sentinels)?;
+    let nodes = nodes_reached(alloc, group, &group.nodes)?;
+    list.extend_from_slice(&nodes)?;
+    let said = matters_said(alloc, group)?;
+    list.extend_from_slice(&said)?;
+    Ok(list)
 }
 
 impl MatterList<'_> {
@@ -36,14 +98,9 @@ impl MatterList<'_> {
         Ok(())
     }
 
-    /// What is looked at in a Sentinel.
-    fn add_sentinel(&mut self, facts: &SentinelFacts) -> Result<(), NoMemory> {
+    /// What is looked at in what a Sentinel said.
+    fn add_sentinel(&mut self, facts: &SentinelFacts, said: &SentinelSaid) -> Result<(), NoMemory> {
         let sentinel = facts.addr;
-        let trouble = facts.said.as_ref().err().copied();
-        self.add(Matter::SentinelReached { sentinel, trouble })?;
-        let Ok(said) = &facts.said else {
-            return Ok(());
-        };
         if let Some(known) = facts.known_id {
             let told = said.id;
             self.add(Matter::KnownId {
@@ -205,7 +262,7 @@ impl MatterList<'_> {
                 continue;
             }
             self.add_node(node, newest)?;
-            if newest.map_or(false, |newest| newest.addr == node.addr) {
+            if group.leads(node) {
                 continue;
             }
             count = count.saturating_add(1);
@@ -227,13 +284,6 @@ impl MatterList<'_> {
     /// What is looked at in a data node.
     fn add_node(&mut self, facts: &NodeFacts, newest: Option<Newest>) -> Result<(), NoMemory> {
         let (node, master) = (facts.addr, facts.master);
-        let leads = newest.map_or(false, |newest| newest.addr == node);
-        self.add(Matter::NodeReached {
-            node,
-            master,
-            leads,
-            trouble: facts.said.err(),
-        })?;
         let Ok(said) = facts.said else {
             return Ok(());
         };

@@ -1,6 +1,7 @@
 //! What is told of a group.
 
 ghost use Rattle.std.specs.Prelude.{◌≡◌, ◌↔◌, [], true};
+ghost use Rattle.group_status.specs.Saying.{HaveAllSaid};
 ghost use Rattle.group_status.specs.Wellness.{IsWellGroup, unwell};
 
 use crate::facts_json::json_of;
@@ -18,6 +19,7 @@ pub struct Status {
     matters: Vec<Matter>,
     pub(crate) findings: Vec<Matter>,
     ghost found: { findings.items ≡ unwell matters.items },
+    ghost whole: { IsWellGroup matters.items → HaveAllSaid group },
 }
 
 impl Status {
@@ -51,6 +53,7 @@ impl Status {
     pub fn exit_status(&self) -> u8
         ensures well { result ≡ 0 ↔ IsWellGroup self.now.matters.items }
         ensures none { result ≡ 0 ↔ (self.now.findings.items ≡ []) }
+        ensures said { result ≡ 0 → HaveAllSaid self.now.group }
     {
         if self.is_well() { 0 } else { 1 }
     }

@@ -151,7 +151,7 @@ impl Page {
         self.column(lag, OrDash(lag_of(group, newest, node)))?;
         self.column(priority, said.priority)?;
         let (listed, views) = listings(group, node);
-        if newest.map_or(false, |newest| newest.addr == node.addr) {
+        if group.leads(node) {
             self.add("-\n")
         } else {
             self.show(format_args!("{listed} of {views}\n"))
