@@ -3,38 +3,39 @@ use Rattle.std.specs.Prelude.{◌≡◌, Bool, true, false, ◌||◌, Some, None
 use Rattle.std.specs.List.{list_any}
 use Rattle.std.proofs.Common.{refl, sym, ◌∙◌}
 use Rattle.std.proofs.lemmas.Bool.{false≢true, true≢false}
-use Rattle.group_status.specs.declared.group.Group.{Group}
+use Rattle.group_status.specs.declared.group.GroupFacts.{GroupFacts}
 use Rattle.group_status.specs.declared.group.SentinelFacts.{SentinelFacts}
 use Rattle.group_status.specs.declared.group.NodeFacts.{NodeFacts}
 use Rattle.group_status.specs.declared.matters.Matter.{Matter}
-use Rattle.group_status.specs.declared.matters.Matter.TheVariants.{KnownId, Tilt, Watches, Epoch, Address, MasterDown, FailsOver, QuorumReached, PeerKnown, PeerDown, ReplicaListed, ReplicaDown, Loads, CallsItself, Link, Follows, Replicas, Heirs, Masters, LeftOut, SentinelReached, NodeReached}
+use Rattle.group_status.specs.declared.matters.What.{What}
+use Rattle.group_status.specs.declared.matters.What.TheVariants.{KnownId, Tilt, Watches, Epoch, Address, MasterDown, FailsOver, QuorumReached, PeerKnown, PeerDown, ReplicaListed, ReplicaDown, Loads, CallsItself, Link, Follows, Replicas, Heirs, Masters, LeftOut, SentinelReached, NodeReached}
 use Rattle.group_status.specs.declared.said.Trouble.{Trouble}
-use Rattle.group_status.specs.Saying.{trouble_of, asked_trouble, HaveAllSaid}
-use Rattle.group_status.specs.Wellness.{is_well, IsWellGroup}
+use Rattle.group_status.specs.Saying.{trouble_of, trouble_at, asked_trouble, HaveAllSaid}
+use Rattle.group_status.specs.Wellness.{is_well_at, IsWellGroup}
 
-no_trouble : (matter : Matter) → is_well matter ≡ true → asked_trouble matter ≡ None
-no_trouble (SentinelReached a None) h = refl
-no_trouble (SentinelReached a (Some t)) h = absurd (false≢true h)
-no_trouble (NodeReached a b c None) h = refl
-no_trouble (NodeReached a b c (Some t)) h = absurd (false≢true h)
-no_trouble (KnownId a b c) h = refl
-no_trouble (Tilt a b) h = refl
-no_trouble (Watches a b c) h = refl
-no_trouble (Epoch a b c d) h = refl
-no_trouble (Address a b c d) h = refl
-no_trouble (MasterDown a b c d) h = refl
-no_trouble (FailsOver a b c) h = refl
-no_trouble (QuorumReached a b c d) h = refl
-no_trouble (PeerKnown a b c d) h = refl
-no_trouble (PeerDown a b c d) h = refl
-no_trouble (ReplicaListed a b c d) h = refl
-no_trouble (ReplicaDown a b c d) h = refl
-no_trouble (Loads a b c) h = refl
-no_trouble (CallsItself a b c d) h = refl
-no_trouble (Link a b c d) h = refl
-no_trouble (Follows a b c d) h = refl
-no_trouble (Replicas a b) h = refl
-no_trouble (Heirs a b c) h = refl
+no_trouble : (what : What) → is_well_at what ≡ true → trouble_at what ≡ None
+no_trouble (SentinelReached None) h = refl
+no_trouble (SentinelReached (Some trouble)) h = absurd (false≢true h)
+no_trouble (NodeReached leads None) h = refl
+no_trouble (NodeReached leads (Some trouble)) h = absurd (false≢true h)
+no_trouble (KnownId a b) h = refl
+no_trouble (Epoch a b) h = refl
+no_trouble (Address a b) h = refl
+no_trouble (MasterDown a b) h = refl
+no_trouble (QuorumReached a b) h = refl
+no_trouble (PeerKnown a b) h = refl
+no_trouble (PeerDown a b) h = refl
+no_trouble (ReplicaListed a b) h = refl
+no_trouble (ReplicaDown a b) h = refl
+no_trouble (CallsItself a b) h = refl
+no_trouble (Link a b) h = refl
+no_trouble (Follows a b) h = refl
+no_trouble (Heirs a b) h = refl
+no_trouble (Tilt a) h = refl
+no_trouble (Watches a) h = refl
+no_trouble (FailsOver a) h = refl
+no_trouble (Loads a) h = refl
+no_trouble (Replicas a) h = refl
 no_trouble (Masters a) h = refl
 no_trouble (LeftOut a) h = refl
 
@@ -55,7 +56,7 @@ all_said_of said (f ∷ facts) (matter ∷ matters) e well =
     let here : asked_trouble matter ≡ trouble_of (said f) = cc in
     let rest : map asked_trouble matters ≡ map (λ f. trouble_of (said f)) facts = cc in
     neither (is_err (said f)) (list_any (λ f. is_err (said f)) facts)
-    (said_at (said f) (sym here ∙ no_trouble matter well.0))
+    (said_at (said f) (sym here ∙ no_trouble matter.what well.0))
     (all_said_of said facts matters rest well.1)
 
 well_parts : (xs ys : List Matter) → IsWellGroup (xs ++ ys) → IsWellGroup xs × IsWellGroup ys
@@ -64,7 +65,7 @@ well_parts (x ∷ xs) ys h =
     let more = well_parts xs ys h.1 in
     ((h.0, more.0), more.1)
 
-pub all_said : (group : Group) (first second third : List Matter)
+pub all_said : (group : GroupFacts) (first second third : List Matter)
     → map asked_trouble first ≡ map (λ facts. trouble_of facts.said) group.sentinels.items
     → map asked_trouble second ≡ map (λ facts. trouble_of facts.said) group.nodes.items
     → IsWellGroup ((first ++ second) ++ third) → HaveAllSaid group

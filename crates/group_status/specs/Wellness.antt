@@ -4,44 +4,48 @@ use Rattle.std.specs.List.{AllByRecursion}
 use Rattle.ballot_law.specs.declared.addresses.Addr.{Addr}
 use Rattle.ballot_law.specs.Orders.{same_addr, same_id}
 use Rattle.group_status.specs.declared.matters.Matter.{Matter}
-use Rattle.group_status.specs.declared.matters.Matter.TheVariants.{SentinelReached, KnownId, Tilt, Watches, Epoch, Address, MasterDown, FailsOver, QuorumReached, PeerKnown, PeerDown, ReplicaListed, ReplicaDown, NodeReached, Loads, CallsItself, Link, Follows, Replicas, Heirs, Masters, LeftOut}
+use Rattle.group_status.specs.declared.matters.What.{What}
+use Rattle.group_status.specs.declared.matters.What.TheVariants.{SentinelReached, KnownId, Tilt, Watches, Epoch, Address, MasterDown, FailsOver, QuorumReached, PeerKnown, PeerDown, ReplicaListed, ReplicaDown, NodeReached, Loads, CallsItself, Link, Follows, Replicas, Heirs, Masters, LeftOut}
 
 -- a replica that knows its master by a name may follow it
 abbrev pub may_follow : Addr → Option Addr → Bool
 may_follow newest None = true
 may_follow newest (Some told) = same_addr told newest
 
-abbrev pub is_well : Matter → Bool
+abbrev pub is_well_at : What → Bool
 -- of a Sentinel: it said something, has the run id by which it is known, isn't in TILT and watches the master
-is_well (SentinelReached sentinel trouble) = is_none trouble
-is_well (KnownId sentinel known told) = same_id known told
-is_well (Tilt sentinel tilt) = not tilt
-is_well (Watches sentinel master watches) = watches
+is_well_at (SentinelReached trouble) = is_none trouble
+is_well_at (KnownId known told) = same_id known told
+is_well_at (Tilt tilt) = not tilt
+is_well_at (Watches watches) = watches
 -- it has the newest configuration
-is_well (Epoch sentinel master told newest) = told == newest
-is_well (Address sentinel master told newest) = same_addr told newest
+is_well_at (Epoch told newest) = told == newest
+is_well_at (Address told newest) = same_addr told newest
 -- it finds the master up, runs no failover, and could have one authorized
-is_well (MasterDown sentinel master down objectively) = not down && not objectively
-is_well (FailsOver sentinel master runs) = not runs
-is_well (QuorumReached sentinel master reached usable) = reached
+is_well_at (MasterDown down objectively) = not down && not objectively
+is_well_at (FailsOver runs) = not runs
+is_well_at (QuorumReached reached usable) = reached
 -- it knows each other Sentinel and each replica, and finds those up that answer
-is_well (PeerKnown sentinel master other known) = known
-is_well (PeerDown sentinel master other down) = not down
-is_well (ReplicaListed sentinel master replica listed) = listed
-is_well (ReplicaDown sentinel master replica down) = not down
+is_well_at (PeerKnown other known) = known
+is_well_at (PeerDown other down) = not down
+is_well_at (ReplicaListed replica listed) = listed
+is_well_at (ReplicaDown replica down) = not down
 -- of a data node: it said something, has its data, and calls itself a master where it is the master, and only there
-is_well (NodeReached node master leads trouble) = is_none trouble
-is_well (Loads node master loads) = not loads
-is_well (CallsItself node master leads is_master) = if leads then is_master else not is_master
+is_well_at (NodeReached leads trouble) = is_none trouble
+is_well_at (Loads loads) = not loads
+is_well_at (CallsItself leads is_master) = if leads then is_master else not is_master
 -- of a replica: it has its link, and follows the newest address
-is_well (Link node master up down_s) = up
-is_well (Follows node master told newest) = may_follow newest told
+is_well_at (Link up down_s) = up
+is_well_at (Follows told newest) = may_follow newest told
 -- of a master: somebody could take over
-is_well (Replicas master count) = nat_lt 0 count
-is_well (Heirs master known able) = (known == 0) || nat_lt 0 able
+is_well_at (Replicas count) = nat_lt 0 count
+is_well_at (Heirs known able) = (known == 0) || nat_lt 0 able
 -- of the group: there is a master, and all was looked at
-is_well (Masters count) = nat_lt 0 count
-is_well (LeftOut count) = count == 0
+is_well_at (Masters count) = nat_lt 0 count
+is_well_at (LeftOut count) = count == 0
+
+abbrev pub is_well : Matter → Bool
+is_well matter = is_well_at matter.what
 
 -- what isn't well, in its order
 abbrev pub unwell : List Matter → List Matter

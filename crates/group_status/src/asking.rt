@@ -1,6 +1,6 @@
 //! Asks all nodes of a group at once, over sockets that never wait.
 
-use crate::group::Group;
+use crate::group::GroupFacts;
 use crate::infos_read::node_said;
 use crate::rows::sentinel_said;
 use crate::said::{NodeSaid, SentinelSaid, Trouble, Unsaid};
@@ -68,7 +68,7 @@ impl From<io::Error> for AskFault {
 
 /// Which node of a group is asked, by its place in the group's list.
 #[derive(Clone, Copy)]
-enum Asked {
+enum AskedPlace {
     Sentinel(usize),
     DataNode(usize),
 }
@@ -77,7 +77,7 @@ enum Asked {
 /// took bytes yet, and `until_ms` when it is given up.
 #[derive(Drop)]
 struct AskedNode {
-    asked: Asked,
+    asked: AskedPlace,
     stream: TcpStream,
     talk: Talk,
     ready: bool,
@@ -174,7 +174,7 @@ fn told<T: Drop>(said: Result<T, Unsaid>) -> Result<Result<T, Trouble>, NoMemory
 struct Questions<'a> {
     alloc: Global,
     targets: &'a Targets,
-    group: Group,
+    group: GroupFacts,
     poll: Poll,
     told: Events<Global>,
     open: Vec<Option<AskedNode>>,
@@ -209,7 +209,7 @@ impl<'a> Questions<'a> {
         Ok(Questions {
             alloc,
             targets,
-            group: Group::of(alloc, targets)?,
+            group: GroupFacts::of(alloc, targets)?,
             poll: Poll::new(net)?,
             told: Events::with_capacity(alloc, OPEN_MAX)?,
             open,
@@ -219,15 +219,15 @@ impl<'a> Questions<'a> {
     }
 
     /// The next node to ask, with its address and a conversation; none where all were begun with.
-    fn next(&mut self) -> Result<Option<(Asked, Addr, Talk)>, NoMemory> {
+    fn next(&mut self) -> Result<Option<(AskedPlace, Addr, Talk)>, NoMemory> {
         if let Some(facts) = self.group.sentinels.get(self.sentinels) {
-            let asked = Asked::Sentinel(self.sentinels);
+            let asked = AskedPlace::Sentinel(self.sentinels);
             let talk = Talk::with_sentinel(self.alloc, self.targets.of_sentinels())?;
             self.sentinels = self.sentinels.saturating_add(1);
             return Ok(Some((asked, facts.addr, talk)));
         }
         if let Some(facts) = self.group.nodes.get(self.nodes) {
-            let asked = Asked::DataNode(self.nodes);
+            let asked = AskedPlace::DataNode(self.nodes);
             let login = self.targets.of_master(&facts.master);
             let talk = Talk::with_data_node(self.alloc, login)?;
             self.nodes = self.nodes.saturating_add(1);
@@ -306,7 +306,7 @@ impl<'a> Questions<'a> {
     /// Takes what a node said, and closes its connection.
     fn take(&mut self, node: AskedNode) -> Result<(), NoMemory> {
         match node.asked {
-            Asked::Sentinel(place) => {
+            AskedPlace::Sentinel(place) => {
                 let said = told(node.sentinel_said(self.alloc))?;
                 if let Ok(said) = &said {
                     self.add_named(said)?;
@@ -315,7 +315,7 @@ impl<'a> Questions<'a> {
                     facts.said = said;
                 }
             }
-            Asked::DataNode(place) => {
+            AskedPlace::DataNode(place) => {
                 let said = told(node.node_said())?;
                 if let Some(facts) = self.group.nodes.get_mut(place) {
                     facts.said = said;
@@ -362,7 +362,7 @@ pub fn ask_group<R: Net + Clock>(
     rt: &R,
     alloc: Global,
     targets: &Targets,
-) -> Result<Group, AskFault> {
+) -> Result<GroupFacts, AskFault> {
     let start = Instant::now(rt)?;
     let mut questions = Questions::of(rt, alloc, targets)?;
     for _ in 0..u64::MAX {

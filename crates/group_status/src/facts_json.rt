@@ -1,7 +1,7 @@
 //! The same as one JSON object in one line. No text of it needs an escape: names are letters, digits, `.`, `-` and `_`,
 //! and no sentence has quotes or backslashes.
 
-use crate::group::{Group, NodeFacts, SentinelFacts};
+use crate::group::{GroupFacts, NodeFacts, SentinelFacts};
 use crate::matters::Matter;
 use crate::said::{MasterSaid, NodeSaid, PeerSaid, ReplicaSaid, SentinelSaid};
 use crate::shown_texts::{At, IdDigits, Page, name_text};
@@ -119,7 +119,7 @@ impl Page {
     }
 
     /// Adds a data node.
-    fn node_object(&mut self, group: &Group, node: &NodeFacts) -> Result<(), NoMemory> {
+    fn node_object(&mut self, group: &GroupFacts, node: &NodeFacts) -> Result<(), NoMemory> {
         let master = name_text(&node.master);
         self.show(format_args!(r#"{{"master":"{master}","#))?;
         self.address_field("address", Some(node.addr))?;
@@ -139,7 +139,7 @@ impl Page {
     }
 
     /// Adds a master with its newest configuration.
-    fn master_object(&mut self, group: &Group, master: &Name) -> Result<(), NoMemory> {
+    fn master_object(&mut self, group: &GroupFacts, master: &Name) -> Result<(), NoMemory> {
         let name = name_text(master);
         self.show(format_args!(r#"{{"name":"{name}","#))?;
         let newest = group.newest(master);
@@ -157,7 +157,7 @@ impl Page {
 /// The object of a group with these findings, and a line's end.
 pub(crate) fn json_of(
     alloc: Global,
-    group: &Group,
+    group: &GroupFacts,
     findings: &[Matter],
 ) -> Result<String, NoMemory> {
     let mut page = Page::new(alloc);

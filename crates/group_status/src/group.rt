@@ -42,7 +42,7 @@ pub(crate) struct NodeFacts {
 
 /// The configuration of a master with the greatest epoch that a Sentinel tells; of several the first one's.
 #[derive(Clone, Copy)]
-pub(crate) struct Newest {
+pub(crate) struct NewestTold {
     pub(crate) addr: Addr,
     pub(crate) epoch: u64,
 }
@@ -52,17 +52,17 @@ pub const NODES_ASKED_MAX: usize = SENTINELS_MAX + MASTERS_MAX * NODES_MAX;
 
 /// All nodes that were asked. `left_out` is how often one more was named than are asked.
 #[derive(Drop)]
-pub struct Group {
+pub struct GroupFacts {
     pub(crate) masters: Vec<Name>,
     pub(crate) sentinels: Vec<SentinelFacts>,
     pub(crate) nodes: Vec<NodeFacts>,
     pub(crate) left_out: u64,
 }
 
-impl Group {
+impl GroupFacts {
     /// The targets, none of which has said anything.
-    pub(crate) fn of(alloc: Global, targets: &Targets) -> Result<Group, NoMemory> {
-        let mut group = Group {
+    pub(crate) fn of(alloc: Global, targets: &Targets) -> Result<GroupFacts, NoMemory> {
+        let mut group = GroupFacts {
             masters: Vec::new(alloc),
             sentinels: Vec::new(alloc),
             nodes: Vec::new(alloc),
@@ -138,14 +138,14 @@ impl Group {
     }
 
     /// The newest configuration of the master; none where no Sentinel tells one.
-    pub(crate) fn newest(&self, master: &Name) -> Option<Newest> {
-        let mut newest: Option<Newest> = None;
+    pub(crate) fn newest(&self, master: &Name) -> Option<NewestTold> {
+        let mut newest: Option<NewestTold> = None;
         for facts in &self.sentinels {
             if let Some(told) = facts.view(master) {
                 let (addr, epoch) = (told.addr, told.epoch);
                 match newest {
                     Some(known) if epoch <= known.epoch => {}
-                    _ => newest = Some(Newest { addr, epoch }),
+                    _ => newest = Some(NewestTold { addr, epoch }),
                 }
             }
         }

@@ -1,10 +1,10 @@
 //! Whether a Sentinel group is well: what its nodes say of it, what of that isn't well, and what to do.
 //!
 //! - `Targets` are the nodes to ask: those of a sentinel.conf, or those found from some Sentinels' addresses.
-//! - `Talk` is the conversation with one node, bytes in and bytes out; `ask_group` has all of them at once over sockets,
-//!   each for at most two seconds, and gives a `Group`: what each node said, or why it didn't.
-//! - `matters_of` lists what is looked at, each as a `Matter`; `specs/Wellness` defines when one is well. `findings` are
-//!   the others, and each is a sentence with what to do. A `Status` holds all of it, and writes it as a table or as
+//! - `Talk` is the conversation with one node, bytes in and bytes out. `ask_group` has all of them at once over
+//!   sockets, each for at most two seconds: what each node said, or why it didn't, is a `GroupFacts`.
+//! - `matters_of` lists what is looked at, each as a `Matter`; `specs/Wellness` defines when one is well. `findings`
+//!   are the others, and each is a sentence with what to do. A `Status` holds all of it, and writes it as a page or as
 //!   JSON.
 #![tactic(auto)]
 
@@ -14,7 +14,6 @@ mod group;
 mod infos_read;
 mod matter_lists;
 mod matters;
-mod node_sentences;
 mod rows;
 mod said;
 mod sentences;
@@ -27,6 +26,6 @@ mod targets;
 mod tests;
 
 pub use asking::{AskFault, OPEN_MAX, TALK_MS, ask_group};
-pub use group::{Group, NODES_ASKED_MAX};
+pub use group::{GroupFacts, NODES_ASKED_MAX};
 pub use status::Status;
-pub use targets::Targets;
+pub use targets::{Passwords, Targets};

@@ -4,16 +4,16 @@ ghost use Rattle.std.specs.Prelude.{◌≡◌, map, IfOk};
 ghost use Rattle.group_status.specs.Wellness.{IsWellGroup};
 ghost use Rattle.group_status.specs.Saying.{trouble_of, asked_trouble, HaveAllSaid};
 
-use crate::group::{Group, Newest, NodeFacts, SentinelFacts};
-use crate::matters::Matter;
-use crate::said::{MasterSaid, NodeSaid, SentinelSaid, Trouble};
-use ballot_law::{Addr, Name, NoMemory};
+use crate::group::{GroupFacts, NewestTold, NodeFacts, SentinelFacts};
+use crate::matters::{Matter, What};
+use crate::said::{MasterSaid, SentinelSaid, Trouble};
+use ballot_law::{Addr, Name, NoMemory, RunId};
 use std::alloc::Global;
 
 /// The list as it grows.
 #[derive(Drop)]
 struct MatterList<'a> {
-    group: &'a Group,
+    group: &'a GroupFacts,
     list: Vec<Matter>,
 }
 
@@ -34,9 +34,10 @@ fn sentinels_reached(alloc: Global, sentinels: &[SentinelFacts]) -> Result<Vec<M
     let mut list = Vec::new(alloc);
     let mut rest = sentinels;
     while let [facts, more @ ..] = rest {
-        list.push(Matter::SentinelReached {
-            sentinel: facts.addr,
-            trouble: trouble_of(&facts.said),
+        list.push(Matter {
+            at: Some(facts.addr),
+            master: None,
+            what: What::SentinelReached(trouble_of(&facts.said)),
         })?;
         rest = more;
     }
@@ -44,31 +45,44 @@ fn sentinels_reached(alloc: Global, sentinels: &[SentinelFacts]) -> Result<Vec<M
 }
 
 /// Whether each of these data nodes said something.
-fn nodes_reached(alloc: Global, group: &Group, nodes: &[NodeFacts]) -> Result<Vec<Matter>, NoMemory>
+fn nodes_reached(
+    alloc: Global,
+    group: &GroupFacts,
+    nodes: &[NodeFacts],
+) -> Result<Vec<Matter>, NoMemory>
     ensures { IfOk result (λ list. map asked_trouble list.items ≡ map (λ facts. trouble_of facts.said) nodes.now) }
 {
     let mut list = Vec::new(alloc);
     let mut rest = nodes;
     while let [facts, more @ ..] = rest {
-        list.push(Matter::NodeReached {
-            node: facts.addr,
-            master: facts.master,
-            leads: group.leads(facts),
-            trouble: trouble_of(&facts.said),
+        list.push(Matter {
+            at: Some(facts.addr),
+            master: Some(facts.master),
+            what: What::NodeReached(group.leads(facts), trouble_of(&facts.said)),
         })?;
         rest = more;
     }
     Ok(list)
 }
 
+/// All that is looked at in a group: whether each Sentinel and each data node said something, and what they said.
+pub(crate) fn matters_of(alloc: Global, group: &GroupFacts) -> Result<Vec<Matter>, NoMemory>
+    ensures { IfOk result (λ list. IsWellGroup list.items → HaveAllSaid group.now) }
+{
+    let mut list = sentinels_reached(alloc, &group.sentinels)?;
+    let nodes = nodes_reached(alloc, group, &group.nodes)?;
+    list.extend_from_slice(&nodes)?;
+    let said = matters_said(alloc, group)?;
+    list.extend_from_slice(&said)?;
+    Ok(list)
+}
+
 /// What is looked at in what the nodes said.
-fn matters_said(alloc: Global, group: &Group) -> Result<Vec<Matter>, NoMemory> {
+fn matters_said(alloc: Global, group: &GroupFacts) -> Result<Vec<Matter>, NoMemory> {
     let list = Vec::new(alloc);
     let mut matters = MatterList { group, list };
-    let count = group.masters.len() as u64;
-    matters.add(Matter::Masters { count })?;
-    let count = group.left_out;
-    matters.add(Matter::LeftOut { count })?;
+    matters.add(None, None, What::Masters(group.masters.len() as u64))?;
+    matters.add(None, None, What::LeftOut(group.left_out))?;
     for facts in &group.sentinels {
         if let Ok(said) = &facts.said {
             matters.add_sentinel(facts, said)?;
@@ -80,40 +94,28 @@ fn matters_said(alloc: Global, group: &Group) -> Result<Vec<Matter>, NoMemory> {
     Ok(matters.list)
 }
 
-/// All that is looked at in a group: whether each Sentinel and each data node said something, and what they said.
-pub(crate) fn matters_of(alloc: Global, group: &Group) -> Result<Vec<Matter>, NoMemory>
-    ensures { IfOk result (λ list. IsWellGroup list.items → HaveAllSaid group.now) }
-{
-    let mut list = sentinels_reached(alloc, &group.sentinels)?;
-    let nodes = nodes_reached(alloc, group, &group.nodes)?;
-    list.extend_from_slice(&nodes)?;
-    let said = matters_said(alloc, group)?;
-    list.extend_from_slice(&said)?;
-    Ok(list)
-}
-
 impl MatterList<'_> {
-    fn add(&mut self, matter: Matter) -> Result<(), NoMemory> {
-        self.list.push(matter)?;
+    fn add(&mut self, at: Option<Addr>, master: Option<Name>, what: What) -> Result<(), NoMemory> {
+        self.list.push(Matter { at, master, what })?;
         Ok(())
     }
 
     /// What is looked at in what a Sentinel said.
     fn add_sentinel(&mut self, facts: &SentinelFacts, said: &SentinelSaid) -> Result<(), NoMemory> {
-        let sentinel = facts.addr;
+        let at = Some(facts.addr);
         if let Some(known) = facts.known_id {
-            let told = said.id;
-            self.add(Matter::KnownId {
-                sentinel,
-                known,
-                told,
-            })?;
+            self.add(at, None, What::KnownId(known, said.id))?;
         }
-        let tilt = said.tilt.unwrap_or(false);
-        self.add(Matter::Tilt { sentinel, tilt })?;
+        self.add(at, None, What::Tilt(said.tilt.unwrap_or(false)))?;
         let group = self.group;
         for master in &group.masters {
-            self.add_view(sentinel, *master, said)?;
+            let view = said.master(master);
+            self.add(at, Some(*master), What::Watches(view.is_some()))?;
+            if let (Some(view), Some(newest)) = (view, group.newest(master)) {
+                self.add_view(at, view, newest)?;
+                self.add_peers(at, view, said.id)?;
+                self.add_listing(at, view, newest)?;
+            }
         }
         Ok(())
     }
@@ -121,132 +123,66 @@ impl MatterList<'_> {
     /// What is looked at in what a Sentinel tells of a master.
     fn add_view(
         &mut self,
-        sentinel: Addr,
-        master: Name,
-        said: &SentinelSaid,
-    ) -> Result<(), NoMemory> {
-        let view = said.master(&master);
-        let watches = view.is_some();
-        self.add(Matter::Watches {
-            sentinel,
-            master,
-            watches,
-        })?;
-        let (Some(view), Some(newest)) = (view, self.group.newest(&master)) else {
-            return Ok(());
-        };
-        self.add_configuration(sentinel, view, newest)?;
-        self.add_state(sentinel, view)?;
-        self.add_peers(sentinel, view, said)?;
-        self.add_listing(sentinel, view, newest)
-    }
-
-    /// Whether it tells the newest configuration.
-    fn add_configuration(
-        &mut self,
-        sentinel: Addr,
+        at: Option<Addr>,
         view: &MasterSaid,
-        newest: Newest,
+        newest: NewestTold,
     ) -> Result<(), NoMemory> {
-        let master = view.name;
-        self.add(Matter::Epoch {
-            sentinel,
+        let master = Some(view.name);
+        self.add(at, master, What::Epoch(view.epoch, newest.epoch))?;
+        self.add(at, master, What::Address(view.addr, newest.addr))?;
+        self.add(at, master, What::MasterDown(view.down, view.objectively))?;
+        self.add(at, master, What::FailsOver(view.fails_over))?;
+        let quorum = view.quorum;
+        self.add(
+            at,
             master,
-            told: view.epoch,
-            newest: newest.epoch,
-        })?;
-        self.add(Matter::Address {
-            sentinel,
-            master,
-            told: view.addr,
-            newest: newest.addr,
-        })
+            What::QuorumReached(quorum.reached, quorum.usable),
+        )
     }
 
-    /// How it finds the master.
-    fn add_state(&mut self, sentinel: Addr, view: &MasterSaid) -> Result<(), NoMemory> {
-        let master = view.name;
-        self.add(Matter::MasterDown {
-            sentinel,
-            master,
-            down: view.down,
-            objectively: view.objectively,
-        })?;
-        self.add(Matter::FailsOver {
-            sentinel,
-            master,
-            runs: view.fails_over,
-        })?;
-        self.add(Matter::QuorumReached {
-            sentinel,
-            master,
-            reached: view.quorum.reached,
-            usable: view.quorum.usable,
-        })
-    }
-
-    /// How it finds the other Sentinels.
+    /// How a Sentinel with this run id finds the others.
     fn add_peers(
         &mut self,
-        sentinel: Addr,
+        at: Option<Addr>,
         view: &MasterSaid,
-        said: &SentinelSaid,
+        own: RunId,
     ) -> Result<(), NoMemory> {
-        let (master, group) = (view.name, self.group);
+        let (master, group) = (Some(view.name), self.group);
         for facts in &group.sentinels {
             let Some(id) = facts.id() else {
                 continue;
             };
-            if id == said.id {
+            if id == own {
                 continue;
             }
             let (other, peer) = (facts.addr, view.peer(id));
-            self.add(Matter::PeerKnown {
-                sentinel,
-                master,
-                other,
-                known: peer.is_some(),
-            })?;
+            self.add(at, master, What::PeerKnown(other, peer.is_some()))?;
             if let (Some(peer), Ok(_)) = (peer, &facts.said) {
-                self.add(Matter::PeerDown {
-                    sentinel,
-                    master,
-                    other,
-                    down: peer.down,
-                })?;
+                self.add(at, master, What::PeerDown(other, peer.down))?;
             }
         }
         Ok(())
     }
 
-    /// How it finds the replicas of the newest configuration. One that isn't announced is listed by nobody.
+    /// How a Sentinel finds the replicas of the newest configuration. One that isn't announced is listed by nobody.
     fn add_listing(
         &mut self,
-        sentinel: Addr,
+        at: Option<Addr>,
         view: &MasterSaid,
-        newest: Newest,
+        newest: NewestTold,
     ) -> Result<(), NoMemory> {
-        let (master, group) = (view.name, self.group);
+        let (master, group) = (Some(view.name), self.group);
         for node in &group.nodes {
             let replica = node.addr;
-            if node.master != master || replica == newest.addr || replica == view.addr {
+            if node.master != view.name || replica == newest.addr || replica == view.addr {
                 continue;
             }
             let listed = view.replica_at(replica);
-            let announced = node.said.map_or(true, |said| said.announced);
-            self.add(Matter::ReplicaListed {
-                sentinel,
-                master,
-                replica,
-                listed: listed.is_some() || !announced,
-            })?;
+            let is_hidden = node.said.map_or(false, |said| !said.announced);
+            let is_listed = listed.is_some() || is_hidden;
+            self.add(at, master, What::ReplicaListed(replica, is_listed))?;
             if let (Some(listed), Ok(_)) = (listed, node.said) {
-                self.add(Matter::ReplicaDown {
-                    sentinel,
-                    master,
-                    replica,
-                    down: listed.down,
-                })?;
+                self.add(at, master, What::ReplicaDown(replica, listed.down))?;
             }
         }
         Ok(())
@@ -273,61 +209,26 @@ impl MatterList<'_> {
                 }
             }
         }
-        self.add(Matter::Replicas { master, count })?;
-        self.add(Matter::Heirs {
-            master,
-            known,
-            able,
-        })
+        self.add(None, Some(master), What::Replicas(count))?;
+        self.add(None, Some(master), What::Heirs(known, able))
     }
 
-    /// What is looked at in a data node.
-    fn add_node(&mut self, facts: &NodeFacts, newest: Option<Newest>) -> Result<(), NoMemory> {
-        let (node, master) = (facts.addr, facts.master);
+    /// What is looked at in what a data node said: what it is by the newest configuration.
+    fn add_node(&mut self, facts: &NodeFacts, newest: Option<NewestTold>) -> Result<(), NoMemory> {
+        let (at, master) = (Some(facts.addr), Some(facts.master));
         let Ok(said) = facts.said else {
             return Ok(());
         };
-        let loads = said.loads;
-        self.add(Matter::Loads {
-            node,
-            master,
-            loads,
-        })?;
-        match newest {
-            Some(newest) => self.add_role(facts, newest, said),
-            None => Ok(()),
-        }
-    }
-
-    /// Whether a data node is what it should be by the newest configuration.
-    fn add_role(
-        &mut self,
-        facts: &NodeFacts,
-        newest: Newest,
-        said: NodeSaid,
-    ) -> Result<(), NoMemory> {
-        let (node, master) = (facts.addr, facts.master);
-        let leads = newest.addr == node;
-        self.add(Matter::CallsItself {
-            node,
-            master,
-            leads,
-            is_master: said.is_master,
-        })?;
+        self.add(at, master, What::Loads(said.loads))?;
+        let Some(newest) = newest else {
+            return Ok(());
+        };
+        let leads = newest.addr == facts.addr;
+        self.add(at, master, What::CallsItself(leads, said.is_master))?;
         if leads || said.is_master {
             return Ok(());
         }
-        self.add(Matter::Link {
-            node,
-            master,
-            up: said.link_up,
-            down_s: said.link_down_s,
-        })?;
-        self.add(Matter::Follows {
-            node,
-            master,
-            told: said.follows,
-            newest: newest.addr,
-        })
+        self.add(at, master, What::Link(said.link_up, said.link_down_s))?;
+        self.add(at, master, What::Follows(said.follows, newest.addr))
     }
 }

@@ -1,195 +1,96 @@
 //! What is looked at in a group, and what of it isn't well.
 
 ghost use Rattle.std.specs.Prelude.{◌≡◌, IfOk};
-ghost use Rattle.group_status.specs.Wellness.{is_well, unwell};
+ghost use Rattle.group_status.specs.Wellness.{is_well_at, is_well, unwell};
 
 use crate::said::Trouble;
 use ballot_law::{Addr, Name, NoMemory, RunId};
 use std::alloc::Global;
 
-/// One thing that is looked at, with what was found. `specs/Wellness` says when it is well.
-///
-/// Addresses are those of the Sentinel that tells it, and of the node that it is about.
+/// What is looked at, and what was found. `specs/Wellness` says when it is well.
 #[derive(Clone, Copy)]
-pub(crate) enum Matter {
-    /// Whether a Sentinel said something.
-    SentinelReached {
-        sentinel: Addr,
-        trouble: Option<Trouble>,
-    },
-    /// Whether a Sentinel has the run id by which the others know it.
-    KnownId {
-        sentinel: Addr,
-        known: RunId,
-        told: RunId,
-    },
-    /// Whether a Sentinel is in TILT, in which it begins nothing.
-    Tilt {
-        sentinel: Addr,
-        tilt: bool,
-    },
-    /// Whether a Sentinel watches a master of the group.
-    Watches {
-        sentinel: Addr,
-        master: Name,
-        watches: bool,
-    },
-    /// Whether a Sentinel has the newest configuration of a master.
-    Epoch {
-        sentinel: Addr,
-        master: Name,
-        told: u64,
-        newest: u64,
-    },
-    /// Whether a Sentinel tells the address of the newest configuration.
-    Address {
-        sentinel: Addr,
-        master: Name,
-        told: Addr,
-        newest: Addr,
-    },
-    /// Whether a Sentinel finds a master down: `objectively` with enough others.
-    MasterDown {
-        sentinel: Addr,
-        master: Name,
-        down: bool,
-        objectively: bool,
-    },
-    /// Whether a Sentinel runs a failover.
-    FailsOver {
-        sentinel: Addr,
-        master: Name,
-        runs: bool,
-    },
-    /// Whether a Sentinel reaches enough others for the quorum and a majority.
-    QuorumReached {
-        sentinel: Addr,
-        master: Name,
-        reached: bool,
-        usable: u64,
-    },
-    /// Whether a Sentinel knows another one.
-    PeerKnown {
-        sentinel: Addr,
-        master: Name,
-        other: Addr,
-        known: bool,
-    },
-    /// Whether a Sentinel finds another one down that answers here.
-    PeerDown {
-        sentinel: Addr,
-        master: Name,
-        other: Addr,
-        down: bool,
-    },
-    /// Whether a Sentinel lists a replica of the group.
-    ReplicaListed {
-        sentinel: Addr,
-        master: Name,
-        replica: Addr,
-        listed: bool,
-    },
-    /// Whether a Sentinel finds a replica down that answers here.
-    ReplicaDown {
-        sentinel: Addr,
-        master: Name,
-        replica: Addr,
-        down: bool,
-    },
-    /// Whether a data node said something: `leads` where it is the master.
-    NodeReached {
-        node: Addr,
-        master: Name,
-        leads: bool,
-        trouble: Option<Trouble>,
-    },
-    /// Whether a data node still loads its data.
-    Loads {
-        node: Addr,
-        master: Name,
-        loads: bool,
-    },
-    /// Whether a data node calls itself a master, which the master alone should.
-    CallsItself {
-        node: Addr,
-        master: Name,
-        leads: bool,
-        is_master: bool,
-    },
-    /// Whether a replica has its link to its master, and for how many seconds it hasn't.
-    Link {
-        node: Addr,
-        master: Name,
-        up: bool,
-        down_s: u64,
-    },
-    /// Whether a replica follows the newest address; none where it knows its master by a name.
-    Follows {
-        node: Addr,
-        master: Name,
-        told: Option<Addr>,
-        newest: Addr,
-    },
-    /// How many replicas a master has.
-    Replicas {
-        master: Name,
-        count: u64,
-    },
-    /// Of how many replicas the priority is known, and how many of these have one above 0, so that they may take over.
-    Heirs {
-        master: Name,
-        known: u64,
-        able: u64,
-    },
-    /// How many masters are watched by somebody, or named by the file.
-    Masters {
-        count: u64,
-    },
-    /// How many nodes were named that weren't asked.
-    LeftOut {
-        count: u64,
-    },
+pub(crate) enum What {
+    /// Of a Sentinel: why it said nothing, if so.
+    SentinelReached(Option<Trouble>),
+    /// The run id by which the others know it, and its own.
+    KnownId(RunId, RunId),
+    /// Whether it is in TILT, in which it begins nothing.
+    Tilt(bool),
+    /// Whether it watches the master.
+    Watches(bool),
+    /// The epoch of the configuration that it tells, and of the newest one.
+    Epoch(u64, u64),
+    /// The address that it tells, and the newest one.
+    Address(Addr, Addr),
+    /// Whether it finds the master down: by itself, and with enough others.
+    MasterDown(bool, bool),
+    /// Whether it runs a failover.
+    FailsOver(bool),
+    /// Whether it reaches enough Sentinels for the quorum and a majority, and how many are usable.
+    QuorumReached(bool, u64),
+    /// Whether it knows this other Sentinel.
+    PeerKnown(Addr, bool),
+    /// Whether it finds this one down, which answers here.
+    PeerDown(Addr, bool),
+    /// Whether it lists this replica.
+    ReplicaListed(Addr, bool),
+    /// Whether it finds this one down, which answers here.
+    ReplicaDown(Addr, bool),
+    /// Of a data node: whether it is the master, and why it said nothing, if so.
+    NodeReached(bool, Option<Trouble>),
+    /// Whether it still loads its data.
+    Loads(bool),
+    /// Whether it is the master, and whether it calls itself one.
+    CallsItself(bool, bool),
+    /// Whether it has its link to its master, and for how many seconds it hasn't.
+    Link(bool, u64),
+    /// Whom it follows, where it knows that by an address, and the newest address.
+    Follows(Option<Addr>, Addr),
+    /// Of a master: how many replicas it has.
+    Replicas(u64),
+    /// Of how many the priority is known, and how many of these may take over.
+    Heirs(u64, u64),
+    /// Of the group: how many masters are named.
+    Masters(u64),
+    /// How often a node was named that wasn't asked.
+    LeftOut(u64),
 }
 
-impl Matter {
+/// One thing that is looked at, at which Sentinel or data node, and of which master, where it is about one.
+#[derive(Clone, Copy)]
+pub(crate) struct Matter {
+    pub(crate) at: Option<Addr>,
+    pub(crate) master: Option<Name>,
+    pub(crate) what: What,
+}
+
+impl What {
     /// Whether it is well.
-    pub(crate) fn is_well(&self) -> bool
-        ensures { result ≡ is_well self.now }
+    fn is_well(&self) -> bool
+        ensures { result ≡ is_well_at self.now }
     {
         match self {
-            Matter::SentinelReached { trouble, .. } => trouble.is_none(),
-            Matter::KnownId { known, told, .. } => known.is_same(told),
-            Matter::Tilt { tilt, .. } => !*tilt,
-            Matter::Watches { watches, .. } => *watches,
-            Matter::Epoch { told, newest, .. } => *told == *newest,
-            Matter::Address { told, newest, .. } => told.is_same(newest),
-            Matter::MasterDown {
-                down,
-                objectively,
-                ..
-            } => !*down && !*objectively,
-            Matter::FailsOver { runs, .. } => !*runs,
-            Matter::QuorumReached { reached, .. } => *reached,
-            Matter::PeerKnown { known, .. } => *known,
-            Matter::PeerDown { down, .. } => !*down,
-            Matter::ReplicaListed { listed, .. } => *listed,
-            Matter::ReplicaDown { down, .. } => !*down,
-            Matter::NodeReached { trouble, .. } => trouble.is_none(),
-            Matter::Loads { loads, .. } => !*loads,
-            Matter::CallsItself {
-                leads,
-                is_master,
-                ..
-            } => *leads == *is_master,
-            Matter::Link { up, .. } => *up,
-            Matter::Follows { told, newest, .. } => match told {
-                Some(told) => told.is_same(newest),
-                None => true,
-            },
-            Matter::Replicas { count, .. } => *count > 0,
-            Matter::Heirs { known, able, .. } => *known == 0 || *able > 0,
-            Matter::Masters { count } => *count > 0,
-            Matter::LeftOut { count } => *count == 0,
+            What::SentinelReached(trouble) | What::NodeReached(_, trouble) => trouble.is_none(),
+            What::KnownId(known, told) => known.is_same(told),
+            What::Tilt(is_bad)
+            | What::FailsOver(is_bad)
+            | What::PeerDown(_, is_bad)
+            | What::ReplicaDown(_, is_bad)
+            | What::Loads(is_bad) => !*is_bad,
+            What::Watches(is_well)
+            | What::QuorumReached(is_well, _)
+            | What::PeerKnown(_, is_well)
+            | What::ReplicaListed(_, is_well)
+            | What::Link(is_well, _) => *is_well,
+            What::Epoch(told, newest) => *told == *newest,
+            What::Address(told, newest) => told.is_same(newest),
+            What::MasterDown(down, objectively) => !*down && !*objectively,
+            What::CallsItself(leads, is_master) => { if *leads { *is_master } else { !*is_master } }
+            What::Follows(None, _) => true,
+            What::Follows(Some(told), newest) => told.is_same(newest),
+            What::Replicas(count) | What::Masters(count) => *count > 0,
+            What::Heirs(known, able) => *known == 0 || *able > 0,
+            What::LeftOut(count) => *count == 0,
         }
     }
 }
@@ -201,7 +102,7 @@ pub(crate) fn findings(alloc: Global, matters: &[Matter]) -> Result<Vec<Matter>,
     let mut found = Vec::new(alloc);
     let mut rest = matters;
     while let [matter, more @ ..] = rest {
-        if !matter.is_well() {
+        if !matter.what.is_well() {
             found.push(*matter)?;
         }
         rest = more;

@@ -5,7 +5,7 @@ ghost use Rattle.group_status.specs.Saying.{HaveAllSaid};
 ghost use Rattle.group_status.specs.Wellness.{IsWellGroup, unwell};
 
 use crate::facts_json::json_of;
-use crate::group::Group;
+use crate::group::GroupFacts;
 use crate::matter_lists::matters_of;
 use crate::matters::{Matter, findings};
 use crate::tables::page_of;
@@ -15,7 +15,7 @@ use std::alloc::Global;
 /// What the nodes of a group said, what was looked at in it, and what of that isn't well.
 #[derive(Drop)]
 pub struct Status {
-    group: Group,
+    group: GroupFacts,
     matters: Vec<Matter>,
     pub(crate) findings: Vec<Matter>,
     ghost found: { findings.items ≡ unwell matters.items },
@@ -24,7 +24,7 @@ pub struct Status {
 
 impl Status {
     /// Looks at a group. `NoMemory`: memory was refused.
-    pub fn of(alloc: Global, group: Group) -> Result<Status, NoMemory> {
+    pub fn of(alloc: Global, group: GroupFacts) -> Result<Status, NoMemory> {
         let matters = matters_of(alloc, &group)?;
         let findings = findings(alloc, &matters)?;
         Ok(Status {

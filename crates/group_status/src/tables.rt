@@ -1,6 +1,6 @@
 //! The page that an operator reads: a table of each master, and what isn't well.
 
-use crate::group::{Group, Newest, NodeFacts, SentinelFacts};
+use crate::group::{GroupFacts, NewestTold, NodeFacts, SentinelFacts};
 use crate::matters::Matter;
 use crate::said::{MasterSaid, NodeSaid, Trouble};
 use crate::shown_texts::{At, Page, name_text};
@@ -55,7 +55,11 @@ impl fmt::Display for OrDash {
 }
 
 /// The bytes by which a replica is behind its master, where both told how far they are.
-pub(crate) fn lag_of(group: &Group, newest: Option<Newest>, node: &NodeFacts) -> Option<u64> {
+pub(crate) fn lag_of(
+    group: &GroupFacts,
+    newest: Option<NewestTold>,
+    node: &NodeFacts,
+) -> Option<u64> {
     let newest = newest?;
     let replica = node.said.ok()?;
     let master = group.node_at(newest.addr, &node.master)?;
@@ -66,7 +70,7 @@ pub(crate) fn lag_of(group: &Group, newest: Option<Newest>, node: &NodeFacts) ->
 }
 
 /// How many Sentinels list a replica, and how many tell of its master.
-pub(crate) fn listings(group: &Group, node: &NodeFacts) -> (u64, u64) {
+pub(crate) fn listings(group: &GroupFacts, node: &NodeFacts) -> (u64, u64) {
     let (mut listed, mut views): (u64, u64) = (0, 0);
     for facts in &group.sentinels {
         if let Some(view) = facts.view(&node.master) {
@@ -84,7 +88,7 @@ impl Page {
     fn vote(
         &mut self,
         width: usize,
-        group: &Group,
+        group: &GroupFacts,
         vote: Option<(RunId, u64)>,
     ) -> Result<(), NoMemory> {
         let Some((id, epoch)) = vote else {
@@ -102,7 +106,7 @@ impl Page {
     /// Adds the row of a Sentinel.
     fn sentinel_row(
         &mut self,
-        group: &Group,
+        group: &GroupFacts,
         master: &Name,
         facts: &SentinelFacts,
     ) -> Result<(), NoMemory> {
@@ -131,8 +135,8 @@ impl Page {
     /// Adds the row of a data node.
     fn node_row(
         &mut self,
-        group: &Group,
-        newest: Option<Newest>,
+        group: &GroupFacts,
+        newest: Option<NewestTold>,
         node: &NodeFacts,
     ) -> Result<(), NoMemory> {
         let [address, role, link, lag, priority] = NODE_WIDTHS;
@@ -169,7 +173,7 @@ impl Page {
     }
 
     /// Adds the tables of a master.
-    fn master(&mut self, group: &Group, master: &Name) -> Result<(), NoMemory> {
+    fn master(&mut self, group: &GroupFacts, master: &Name) -> Result<(), NoMemory> {
         let newest = group.newest(master);
         self.add(name_text(master))?;
         if let Some(newest) = newest {
@@ -202,7 +206,7 @@ impl Page {
 /// The page of a group with these findings: the tables of each master, then `well`, or a sentence for each finding.
 pub(crate) fn page_of(
     alloc: Global,
-    group: &Group,
+    group: &GroupFacts,
     findings: &[Matter],
 ) -> Result<String, NoMemory> {
     let mut page = Page::new(alloc);

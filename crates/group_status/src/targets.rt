@@ -62,27 +62,33 @@ pub struct Targets {
     nodes: Vec<DataNodeAt>,
     of_sentinels: Credentials,
     of_masters: Vec<MasterCredentials>,
-    without: Credentials,
+    of_others: Credentials,
     finds_sentinels: bool,
 }
 
-/// The password of the Sentinels' ports: that of the file, or where it has none the one that was given.
-fn port_pass<'a>(watch: &'a WatchConf, given: &'a [u8]) -> &'a [u8] {
-    let pass = watch.sent_pass();
+/// Passwords that no file has: of the Sentinels' ports, and of the data nodes. An empty one is none.
+#[derive(Clone, Copy)]
+pub struct Passwords<'a> {
+    pub of_ports: &'a [u8],
+    pub of_nodes: &'a [u8],
+}
+
+/// A password of a file, or the one that was given where it has none.
+fn first_of<'a>(pass: &'a [u8], given: &'a [u8]) -> &'a [u8] {
     if pass.is_empty() { given } else { pass }
 }
 
 impl Targets {
-    /// All nodes of the group of this file, with the file's logins. `pass` is the password of the Sentinels' ports where
-    /// the file has none; an empty one is none.
+    /// All nodes of the group of this file, with the file's logins; where it has no password, with that of `given`.
     pub fn of_conf(
         alloc: Global,
         conf: &Conf,
         watch: &WatchConf,
-        pass: &[u8],
+        given: Passwords<'_>,
     ) -> Result<Targets, NoMemory> {
-        let of_sentinels = Credentials::of(alloc, watch.sent_user(), port_pass(watch, pass))?;
-        let mut targets = Targets::none(alloc, of_sentinels, false)?;
+        let pass = first_of(watch.sent_pass(), given.of_ports);
+        let of_sentinels = Credentials::of(alloc, watch.sent_user(), pass)?;
+        let mut targets = Targets::none(alloc, of_sentinels, given)?;
         for member in conf.roster().sentinels() {
             let (addr, id) = (member.addr, Some(member.id));
             targets.sentinels.push(SentinelAt { addr, id })?;
@@ -93,8 +99,8 @@ impl Targets {
                 let addr = *node;
                 targets.nodes.push(DataNodeAt { addr, master })?;
             }
-            let (user, pass) = (watch.node_user(&master), watch.node_pass(&master));
-            let credentials = Credentials::of(alloc, user, pass)?;
+            let pass = first_of(watch.node_pass(&master), given.of_nodes);
+            let credentials = Credentials::of(alloc, watch.node_user(&master), pass)?;
             targets.of_masters.push(MasterCredentials {
                 master,
                 credentials,
@@ -103,11 +109,15 @@ impl Targets {
         Ok(targets)
     }
 
-    /// The Sentinels at these addresses, with this password of their ports; an empty one is none. Data nodes are asked
-    /// without one.
-    pub fn of_addresses(alloc: Global, addrs: &[Addr], pass: &[u8]) -> Result<Targets, NoMemory> {
-        let of_sentinels = Credentials::of(alloc, b"", pass)?;
-        let mut targets = Targets::none(alloc, of_sentinels, true)?;
+    /// The Sentinels at these addresses, and those and the data nodes that they name, with these passwords.
+    pub fn of_addresses(
+        alloc: Global,
+        addrs: &[Addr],
+        given: Passwords<'_>,
+    ) -> Result<Targets, NoMemory> {
+        let of_sentinels = Credentials::of(alloc, b"", given.of_ports)?;
+        let mut targets = Targets::none(alloc, of_sentinels, given)?;
+        targets.finds_sentinels = true;
         for addr in addrs {
             let addr = *addr;
             targets.sentinels.push(SentinelAt { addr, id: None })?;
@@ -118,15 +128,15 @@ impl Targets {
     fn none(
         alloc: Global,
         of_sentinels: Credentials,
-        finds_sentinels: bool,
+        given: Passwords<'_>,
     ) -> Result<Targets, NoMemory> {
         Ok(Targets {
             sentinels: Vec::new(alloc),
             nodes: Vec::new(alloc),
             of_sentinels,
             of_masters: Vec::new(alloc),
-            without: Credentials::of(alloc, b"", b"")?,
-            finds_sentinels,
+            of_others: Credentials::of(alloc, b"", given.of_nodes)?,
+            finds_sentinels: false,
         })
     }
 
@@ -152,7 +162,7 @@ impl Targets {
                 return &known.credentials;
             }
         }
-        &self.without
+        &self.of_others
     }
 
     /// Whether the Sentinels that a Sentinel names are asked too.

@@ -1,6 +1,6 @@
 //! Tests of the conversation, the findings and the texts, over bytes as nodes send them.
 
-use crate::group::{Group, NodeFacts, SentinelFacts};
+use crate::group::{GroupFacts, NodeFacts, SentinelFacts};
 use crate::infos_read::node_said;
 use crate::rows::sentinel_said;
 use crate::said::{NodeSaid, SentinelSaid, Trouble, Unsaid};
@@ -196,7 +196,7 @@ fn group_of(
     alloc: Global,
     said: [Result<SentinelSaid, Trouble>; 2],
     nodes: [Result<NodeSaid, Trouble>; 2],
-) -> Result<Group, Fail> {
+) -> Result<GroupFacts, Fail> {
     let master = Name::from_slice(b"mymaster").ok_or("no name")?;
     let [first, second] = said;
     let [leads, follows] = nodes;
@@ -220,7 +220,7 @@ fn group_of(
         master,
         said: follows,
     };
-    Ok(Group {
+    Ok(GroupFacts {
         masters: vec![in alloc; master]?,
         sentinels: vec![in alloc; first, second]?,
         nodes: vec![in alloc; leads, follows]?,
@@ -278,17 +278,15 @@ well
 fn the_object_has_all_facts(rt: HostRuntime) -> Result<(), Fail> {
     let status = told(rt, SECOND, [MASTER_INFO, REPLICA_INFO])?;
     let json = status.json(rt.alloc()).map_err(|_| "no object")?;
-    assert!(rt;
-        json.as_str().starts_with(
-            r#"{"well":true,"masters":[{"name":"mymaster","address":"10.0.0.1:6379","epoch":7}],"sentinels":[{"address":"10.0.0.1:26379","run_id":"aaaaaaaaaaaaaaaaaaaaaaaaaaaaaaaaaaaaaaaa","trouble":null,"tilt":false,"#
-        )
-    );
-    assert!(rt;
-        json.as_str().ends_with(
-            r#""priority":100,"offset":2788,"follows":"10.0.0.1:6379","lag":212,"listed_by":2,"told_by":2}],"findings":[]}
-"#
-        )
-    );
+    for wanted in [
+        r#"{"well":true,"masters":[{"name":"mymaster","address":"10.0.0.1:6379","epoch":7}],"#,
+        r#""sentinels":[{"address":"10.0.0.1:26379","run_id":"aaaaaaaaaaaaaaaaaaaaaaaaaaaaaaaaaaaaaaaa","#,
+        r#""failover":false,"quorum":true,"usable":2,"replicas":[{"address":"10.0.0.2:6379","s_down":false}],"#,
+        r#""priority":100,"offset":2788,"follows":"10.0.0.1:6379","lag":212,"listed_by":2,"told_by":2}],"#,
+        r#""findings":[]}"#,
+    ] {
+        assert!(rt; json.as_str().contains(wanted));
+    }
     Ok(())
 }
 
@@ -307,12 +305,16 @@ fn what_a_sentinel_tells_is_found(rt: HostRuntime) -> Result<(), Fail> {
     assert_eq!(rt;
         sentences(rt, &status)?.as_str(),
         "\
-Sentinel 10.0.0.2:26379 is in TILT and begins nothing for 30 s: its clock jumped or its machine stood still, so see these
-Sentinel 10.0.0.2:26379 tells epoch 6 of mymaster, and the newest is 7: it hears no hello, so see its links to the data nodes and its rights there
-Sentinel 10.0.0.2:26379 finds the master of mymaster down with enough others (o_down): a failover comes, if a majority and a replica are up
+Sentinel 10.0.0.2:26379 is in TILT and begins nothing for 30 s: see its machine, whose clock jumped or that stood still
+Sentinel 10.0.0.2:26379 tells epoch 6 of mymaster, and the newest is 7: it hears no hello, so see its links to \
+the data nodes and its rights there
+Sentinel 10.0.0.2:26379 finds the master of mymaster down with enough others (o_down): a failover comes, if a \
+majority and a replica are up
 Sentinel 10.0.0.2:26379 runs a failover of mymaster: wait until it ends
-Sentinel 10.0.0.2:26379 counts 1 usable Sentinels for mymaster, too few for a failover: start the others, see the network and the ports' passwords
-Sentinel 10.0.0.2:26379 finds Sentinel 10.0.0.1:26379 down for mymaster, which answers here: see the network and the ports' passwords between the two
+Sentinel 10.0.0.2:26379 counts 1 usable Sentinels for mymaster, too few for a failover: start the others, see \
+the network and the ports' passwords
+Sentinel 10.0.0.2:26379 finds Sentinel 10.0.0.1:26379 down for mymaster, which answers here: see the network \
+and the ports' passwords between the two
 "
     );
     Ok(())
@@ -335,10 +337,12 @@ master_link_down_since_seconds:12\r\nslave_priority:0\r\n";
         sentences(rt, &status)?.as_str(),
         "\
 10.0.0.1:6379 of mymaster loads its data: wait, no Sentinel takes it for up before it is done
-the master 10.0.0.1:6379 of mymaster calls itself a replica: if this lasts for 10 s, ask a Sentinel for SENTINEL FAILOVER mymaster
+the master 10.0.0.1:6379 of mymaster calls itself a replica: if this lasts for 10 s, ask a Sentinel for \
+SENTINEL FAILOVER mymaster
 the replica 10.0.0.2:6379 of mymaster has had no link to its master for 12 s: see its `masterauth` and its log
-the replica 10.0.0.2:6379 of mymaster follows 10.0.0.9:6379, and not 10.0.0.1:6379: the Sentinels correct it within some 10 s, if they list it and may
-each replica of mymaster has priority 0, so nobody can take over: CONFIG SET replica-priority 100 at one of them
+the replica 10.0.0.2:6379 of mymaster follows 10.0.0.9:6379, and not 10.0.0.1:6379: Sentinels that list it \
+correct it within some 10 s, if they may
+each replica of mymaster has priority 0, so nobody can take over: CONFIG SET replica-priority 100 at one
 "
     );
     Ok(())
@@ -356,7 +360,8 @@ fn nodes_that_say_nothing_are_found(rt: HostRuntime) -> Result<(), Fail> {
         sentences(rt, &status)?.as_str(),
         "\
 Sentinel 10.0.0.2:26379 didn't answer within two seconds: see its machine and its journal
-the replica 10.0.0.2:6379 of mymaster refuses the login: write its password (`sentinel auth-pass`, `auth-user`) into the files of all Sentinels
+the replica 10.0.0.2:6379 of mymaster refuses the login: write its password (`sentinel auth-pass`, `auth-user`) \
+into all files
 "
     );
     Ok(())
@@ -399,7 +404,7 @@ fn a_login_goes_first(rt: HostRuntime) -> Result<(), Fail> {
     talk.sent(wanted.len());
     assert!(rt; talk.unsent().is_empty());
     let answers =
-        b"-ERR AUTH <password> called without any password configured for the default user.\r\n$13\r\nrole:master\r\n\r\n";
+        b"-ERR AUTH <password> called without any password configured\r\n$13\r\nrole:master\r\n\r\n";
     hear_all(&mut talk, answers).map_err(|_| "no memory")?;
     assert!(rt; talk.is_over() && talk.answers().is_ok());
     Ok(())

@@ -178,6 +178,21 @@ fn serve<'a>(alloc: Global) -> Result<Command<'a>, AllocError> {
         .arg(conf_files(alloc))
 }
 
+/// The words of `status` that say where passwords are.
+fn status_passwords<'a>(alloc: Global, status: Command<'a>) -> Result<Command<'a>, AllocError> {
+    let of_ports = Arg::new(alloc, "pass-file")
+        .long("pass-file")
+        .value_name("file")
+        .help(
+            "The file with the password of the Sentinels' ports, a line, where the conf has none",
+        );
+    let of_nodes = Arg::new(alloc, "auth-pass-file")
+        .long("auth-pass-file")
+        .value_name("file")
+        .help("The file with the password of the data nodes, a line, where the conf has none");
+    status.arg(of_ports)?.arg(of_nodes)
+}
+
 /// The words of `status`.
 fn status<'a>(alloc: Global) -> Result<Command<'a>, AllocError> {
     let wait = Arg::new(alloc, "wait")
@@ -194,23 +209,20 @@ fn status<'a>(alloc: Global) -> Result<Command<'a>, AllocError> {
         .long("json")
         .action(ArgAction::SetTrue)
         .help("Prints the same as one JSON object in one line");
-    let password = Arg::new(alloc, "pass-file")
-        .long("pass-file")
-        .value_name("file")
-        .help("The file with the password of the Sentinels' ports, a line, where the conf has none");
     let group = Arg::new(alloc, "group")
         .required(true)
         .num_args(1..)
         .action(ArgAction::Append)
         .value_name("conf or ip:port")
-        .help("The sentinel.conf of one Sentinel, or the addresses of some; their ports are 26379 where they aren't said");
-    Command::new(alloc, "status")
+        .help(
+            "The sentinel.conf of a Sentinel, or addresses of Sentinels; the port is 26379 where it isn't said",
+        );
+    let status = Command::new(alloc, "status")
         .about("Asks all nodes of a group that runs, and tells what isn't well, and what to do")
         .arg(wait)?
         .arg(watch)?
-        .arg(json)?
-        .arg(password)?
-        .arg(group)
+        .arg(json)?;
+    status_passwords(alloc, status)?.arg(group)
 }
 
 /// The words of `watch`.

@@ -1,14 +1,13 @@
 //! `status`: whether a group that runs is well, at one look.
 
 use crate::checking::conf_at;
-use crate::command_line::REFUSED_WORDS;
 use crate::failures::fail;
 use crate::new_groups::{Named, addresses_of, password_at, want_memory};
 use crate::watching::refuse_watch;
 use ballot_law::NoMemory;
 use clap::ArgMatches;
 use conf_check::sentinel_address;
-use group_status::{AskFault, Status, Targets, ask_group};
+use group_status::{AskFault, Passwords, Status, Targets, ask_group};
 use sentinel_conf::read_watch;
 use sentinel_core::ServeFault;
 use std::io::{IsTerminal, Write};
@@ -33,35 +32,45 @@ fn held<T: Drop>(rt: HostRuntime, made: Result<T, NoMemory>) -> Result<T, ExitCo
     }
 }
 
+/// The password of the file that this option names; none where it isn't there.
+fn password_of(rt: HostRuntime, words: &ArgMatches, option: &str) -> Result<Vec<u8>, ExitCode> {
+    match words.get_str(option) {
+        Some(path) => password_at(rt, path),
+        None => Ok(Vec::new(rt.alloc())),
+    }
+}
+
 /// The nodes of the group of the file at the path. A file that is refused is told, with all that is wrong with it, and
 /// the status tells it too.
-fn targets_of_conf(rt: HostRuntime, path: &str, pass: &[u8]) -> Result<Targets, ExitCode> {
+fn targets_of_conf(rt: HostRuntime, path: &str, given: Passwords<'_>) -> Result<Targets, ExitCode> {
     let (text, conf) = conf_at(rt, path)?;
     match read_watch(rt.alloc(), &conf, text.as_slice()) {
-        Ok(watch) => held(rt, Targets::of_conf(rt.alloc(), &conf, &watch, pass)),
+        Ok(watch) => held(rt, Targets::of_conf(rt.alloc(), &conf, &watch, given)),
         Err(fault) => Err(refuse_watch(rt, path, &conf, text.as_slice(), fault)),
     }
 }
 
+/// Whether the word is the address of a Sentinel.
+fn is_address(word: &str) -> bool {
+    sentinel_address(word.as_bytes()).is_some()
+}
+
 /// The nodes to ask that the words name: those of the group of one file, or the Sentinels at these addresses.
 fn targets_of(rt: HostRuntime, words: &ArgMatches) -> Result<Targets, ExitCode> {
-    let pass = match words.get_str("pass-file") {
-        Some(path) => password_at(rt, path)?,
-        None => Vec::new(rt.alloc()),
+    let of_ports = password_of(rt, words, "pass-file")?;
+    let of_nodes = password_of(rt, words, "auth-pass-file")?;
+    let given = Passwords {
+        of_ports: &of_ports,
+        of_nodes: &of_nodes,
     };
     let named = words.get_strs("group").unwrap_or(&[]);
-    let is_address = |word: &&str| sentinel_address(word.as_bytes()).is_some();
-    match named {
-        [path] if !is_address(path) => targets_of_conf(rt, path, &pass),
-        named if named.iter().any(is_address) => {
-            let addrs = addresses_of(rt, named, Named::Sentinel)?;
-            held(rt, Targets::of_addresses(rt.alloc(), &addrs, &pass))
-        }
-        _ => {
-            let _ = eprintln!(rt; "sentinel_group: status takes one conf, or addresses of Sentinels");
-            Err(ExitCode::from(REFUSED_WORDS))
+    if let [path] = named {
+        if !is_address(path) {
+            return targets_of_conf(rt, path, given);
         }
     }
+    let addrs = addresses_of(rt, named, Named::Sentinel)?;
+    held(rt, Targets::of_addresses(rt.alloc(), &addrs, given))
 }
 
 /// Looks at the group once.
