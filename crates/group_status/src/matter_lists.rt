@@ -81,8 +81,8 @@ pub(crate) fn matters_of(alloc: Global, group: &GroupFacts) -> Result<Vec<Matter
 fn matters_said(alloc: Global, group: &GroupFacts) -> Result<Vec<Matter>, NoMemory> {
     let list = Vec::new(alloc);
     let mut matters = MatterList { group, list };
-    matters.add(None, None, What::Masters(group.masters.len() as u64))?;
-    matters.add(None, None, What::LeftOut(group.left_out))?;
+    matters.push(None, What::Masters(group.masters.len() as u64))?;
+    matters.push(None, What::LeftOut(group.left_out))?;
     for facts in &group.sentinels {
         if let Ok(said) = &facts.said {
             matters.add_sentinel(facts, said)?;
@@ -95,22 +95,38 @@ fn matters_said(alloc: Global, group: &GroupFacts) -> Result<Vec<Matter>, NoMemo
 }
 
 impl MatterList<'_> {
-    fn add(&mut self, at: Option<Addr>, master: Option<Name>, what: What) -> Result<(), NoMemory> {
+    /// Adds what is looked at in the group, or in a Sentinel.
+    fn push(&mut self, at: Option<Addr>, what: What) -> Result<(), NoMemory> {
+        let master = None;
+        self.list.push(Matter { at, master, what })?;
+        Ok(())
+    }
+
+    /// Adds what is looked at in a Sentinel or a data node, of this master.
+    fn add(&mut self, at: Addr, master: Name, what: What) -> Result<(), NoMemory> {
+        let (at, master) = (Some(at), Some(master));
+        self.list.push(Matter { at, master, what })?;
+        Ok(())
+    }
+
+    /// Adds what is looked at in a master's replicas.
+    fn add_of(&mut self, master: Name, what: What) -> Result<(), NoMemory> {
+        let (at, master) = (None, Some(master));
         self.list.push(Matter { at, master, what })?;
         Ok(())
     }
 
     /// What is looked at in what a Sentinel said.
     fn add_sentinel(&mut self, facts: &SentinelFacts, said: &SentinelSaid) -> Result<(), NoMemory> {
-        let at = Some(facts.addr);
+        let at = facts.addr;
         if let Some(known) = facts.known_id {
-            self.add(at, None, What::KnownId(known, said.id))?;
+            self.push(Some(at), What::KnownId(known, said.id))?;
         }
-        self.add(at, None, What::Tilt(said.tilt.unwrap_or(false)))?;
+        self.push(Some(at), What::Tilt(said.tilt.unwrap_or(false)))?;
         let group = self.group;
         for master in &group.masters {
             let view = said.master(master);
-            self.add(at, Some(*master), What::Watches(view.is_some()))?;
+            self.add(at, *master, What::Watches(view.is_some()))?;
             if let (Some(view), Some(newest)) = (view, group.newest(master)) {
                 self.add_view(at, view, newest)?;
                 self.add_peers(at, view, said.id)?;
@@ -123,11 +139,11 @@ impl MatterList<'_> {
     /// What is looked at in what a Sentinel tells of a master.
     fn add_view(
         &mut self,
-        at: Option<Addr>,
+        at: Addr,
         view: &MasterSaid,
         newest: NewestTold,
     ) -> Result<(), NoMemory> {
-        let master = Some(view.name);
+        let master = view.name;
         self.add(at, master, What::Epoch(view.epoch, newest.epoch))?;
         self.add(at, master, What::Address(view.addr, newest.addr))?;
         self.add(at, master, What::MasterDown(view.down, view.objectively))?;
@@ -141,13 +157,8 @@ impl MatterList<'_> {
     }
 
     /// How a Sentinel with this run id finds the others.
-    fn add_peers(
-        &mut self,
-        at: Option<Addr>,
-        view: &MasterSaid,
-        own: RunId,
-    ) -> Result<(), NoMemory> {
-        let (master, group) = (Some(view.name), self.group);
+    fn add_peers(&mut self, at: Addr, view: &MasterSaid, own: RunId) -> Result<(), NoMemory> {
+        let (master, group) = (view.name, self.group);
         for facts in &group.sentinels {
             let Some(id) = facts.id() else {
                 continue;
@@ -167,11 +178,11 @@ impl MatterList<'_> {
     /// How a Sentinel finds the replicas of the newest configuration. One that isn't announced is listed by nobody.
     fn add_listing(
         &mut self,
-        at: Option<Addr>,
+        at: Addr,
         view: &MasterSaid,
         newest: NewestTold,
     ) -> Result<(), NoMemory> {
-        let (master, group) = (Some(view.name), self.group);
+        let (master, group) = (view.name, self.group);
         for node in &group.nodes {
             let replica = node.addr;
             if node.master != view.name || replica == newest.addr || replica == view.addr {
@@ -209,13 +220,13 @@ impl MatterList<'_> {
                 }
             }
         }
-        self.add(None, Some(master), What::Replicas(count))?;
-        self.add(None, Some(master), What::Heirs(known, able))
+        self.add_of(master, What::Replicas(count))?;
+        self.add_of(master, What::Heirs(known, able))
     }
 
     /// What is looked at in what a data node said: what it is by the newest configuration.
     fn add_node(&mut self, facts: &NodeFacts, newest: Option<NewestTold>) -> Result<(), NoMemory> {
-        let (at, master) = (Some(facts.addr), Some(facts.master));
+        let (at, master) = (facts.addr, facts.master);
         let Ok(said) = facts.said else {
             return Ok(());
         };
