@@ -353,6 +353,13 @@ impl<'a> Questions<'a> {
     }
 }
 
+/// A duration in milliseconds.
+fn millis_of(took: Duration) -> u64 {
+    took.as_secs()
+        .saturating_mul(1_000)
+        .saturating_add(u64::from(took.subsec_millis()))
+}
+
 /// Asks the Sentinels and data nodes of these targets, and those that they name, at once: each for at most `TALK_MS`,
 /// and at most `OPEN_MAX` at a time. What a node said wrongly, or not at all, is in the group.
 ///
@@ -366,7 +373,8 @@ pub fn ask_group<R: Net + Clock>(
     let start = Instant::now(rt)?;
     let mut questions = Questions::of(rt, alloc, targets)?;
     for _ in 0..u64::MAX {
-        let now_ms = start.elapsed(rt)?.as_millis() as u64;
+        let took = start.elapsed(rt)?;
+        let now_ms = millis_of(took);
         questions.begin(rt, now_ms)?;
         questions.turn_all(now_ms)?;
         if questions.is_over() {
