@@ -136,11 +136,8 @@ fn nobody(alloc: Global) -> Result<Credentials, NoMemory> {
 
 /// Has a conversation hear these bytes, a few at a time.
 fn hear_all(talk: &mut Talk, bytes: &[u8]) -> Result<(), NoMemory> {
-    let mut rest = bytes;
-    while !rest.is_empty() {
-        let (piece, more) = rest.split_at(rest.len().min(7));
+    for piece in bytes.chunks(7) {
         talk.hear(piece)?;
-        rest = more;
     }
     Ok(())
 }
