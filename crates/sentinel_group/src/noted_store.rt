@@ -9,10 +9,11 @@ use std::alloc::AllocError;
 use std::io;
 use std::marker::Model;
 use std::str::from_utf8;
-use std::time::{Duration, Instant};
+use std::time::Instant;
 
-/// How long a store may take before that is noted: every vote and each step of a failover waits for one.
-const SLOW: Duration = Duration::from_secs(1);
+/// How long a store may take before that is noted, in milliseconds: every vote and each step of a failover waits for
+/// one.
+const SLOW_MS: u128 = 1_000;
 
 /// A store that tells why its calls failed, and what somebody else put in the place of its text.
 pub(crate) trait TellsFault: ConfStore {
@@ -137,7 +138,7 @@ impl<'a, S: TellsFault + Drop, R: Log> NotedStore<'a, S, R> {
     fn note_slow(&self, begun: io::Result<Instant>) {
         if let Ok(begun) = begun
             && let Ok(took) = begun.elapsed(&self.rt)
-            && took >= SLOW
+            && took.as_millis() >= SLOW_MS
         {
             let noting = self.noting.span("sentinel").with("port", self.port);
             let (path, millis) = (self.path.as_str(), took.as_millis());

@@ -115,8 +115,8 @@ impl ReplicaNotes {
         for unlinked in self.unlinked.iter_mut() {
             if unlinked.number == number {
                 let down_for = now.saturating_sub(unlinked.since);
-                let is_due =
-                    down_for >= LINK_DOWN_MS && unlinked.noted.takes_note(now, DIFFERENT_MS);
+                let is_due = down_for >= LINK_DOWN_MS
+                    && unlinked.noted.takes_note(now, DIFFERENT_MS);
                 return if is_due { Some(down_for) } else { None };
             }
         }
@@ -142,7 +142,8 @@ impl ReplicaNotes {
             && let Some(at) = roster.node_numbered(number)
             && let Some(watched) = roster.masters().get(at.master as usize)
         {
-            let (name, addr, seconds) = (named(&watched.name), Told(at.addr), down_for / 1_000);
+            let (name, addr) = (named(&watched.name), Told(roster.addr_at(at)));
+            let seconds = down_for / 1_000;
             warn!(rt; target: "tcp_wires::replica_notes",
                 "replica {addr} of {name} has had no link to its master for {seconds} s: it gets no writes, and isn't chosen once the link is down for too long. See its own log, the network between the two, and `masterauth` and `masteruser` on it"
             );
