@@ -83,7 +83,7 @@ def log_of(crate):
 def refusal(rt, crate, crates):
     """Why the crate's text is refused, if it is: rt ci's own tests of it, which print what they find."""
     code = rt.rtlib.code_of(crate.folder)
-    beyond = [it for it, words in rt.REACHES.items() if it not in crate.allowed and re.search(words, code)]
+    beyond = [it for it, words in rt.REACHES.items() if it not in rt.handles_of(TOP) and re.search(words, code)]
     if beyond or re.search(rt.RENAMES, code) or re.search(rt.IGNORED, code):
         return f"it reaches past HANDLES ({', '.join(beyond)}), renames std, or ignores a test"
     try:
