@@ -202,8 +202,8 @@ class Lanes:
     """Tasks that run side by side, as by rt's `in_lanes`, which gives each proof one job where others are ready: then the longest chain takes most of the time,
     while processors have nothing to do.
 
-    Here the task at which the longest chain begins doesn't wait for a processor, and gets two jobs at least; the others are nicer than it. A proof takes half
-    the memory that rt reckons, or less, as was measured on 1 December 2026 for each crate."""
+    Here the task at which the longest chain begins doesn't wait for a processor, and gets two to four jobs, of which two count, since a proof ends with a part that
+    is done by one; the others are nicer than it. A proof takes half the memory that rt reckons, or less, as was measured on 1 December 2026 for each crate."""
 
     def __init__(self, rt, tasks):
         number = os.environ.get("RT_JOBS", "")
@@ -235,7 +235,7 @@ class Lanes:
             if self.running and (needs > room or (idle < 1 and not is_first)):
                 continue
             self.left.remove(key)
-            self.running[key] = jobs, needs
+            self.running[key] = min(jobs, 2), needs
             threading.Thread(target=self.work, args=(key, jobs, is_first), daemon=True).start()
 
     def work(self, key, jobs, is_first):
