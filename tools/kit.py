@@ -160,17 +160,40 @@ def in_turn(kind):
         yield
 
 
+@contextlib.contextmanager
+def progress(tell):
+    """Shows what `tell` says of long work, each second anew in one line, where standard error is a terminal. It gets the seconds since the work began."""
+    began, is_over = time.monotonic(), threading.Event()
+
+    def show():
+        while not is_over.wait(1):
+            width = shutil.get_terminal_size().columns - 1
+            print(f"\r\033[K{tell(int(time.monotonic() - began))[:width]}", end="", file=sys.stderr, flush=True)
+
+    shown = threading.Thread(target=show, daemon=True)
+    if sys.stderr.isatty():
+        shown.start()
+    try:
+        yield
+    finally:
+        is_over.set()
+        if shown.is_alive():
+            shown.join()
+            print("\r\033[K", end="", file=sys.stderr, flush=True)
+
+
 def side_by_side(rt, crates, make):
     """Makes each crate once those below it are made, as many at a time as there is room for, those with the longest chain of others above first, and
     says what came of each and how many are left. `make` gets a crate and how many jobs it may use, and tells how the crate came to stand, or
     None. Returns whether all stand."""
     # (Python's own handler would wait for the commands that threads have begun)
     signal.signal(signal.SIGINT, signal.SIG_DFL)
-    left, saying = {it.name for it in crates}, threading.Lock()
+    left, begun, saying = {it.name for it in crates}, set(), threading.Lock()
 
     def task(crate, given, jobs):
         lacking = [it.name for it in crate.below() if not given[it.name, "proof"]]
         began = time.time()
+        begun.add(crate.name)
         came = None if lacking else make(crate, jobs)
         with saying:
             left.discard(crate.name)
@@ -183,7 +206,8 @@ def side_by_side(rt, crates, make):
         # (rt gives what it calls a proof the processors that nothing else waits for)
         below = [(it.name, "proof") for it in crate.below()]
         tasks[crate.name, "proof"] = (below, crate.count(rb"\n"), rt.need(crate), functools.partial(task, crate))
-    return all(rt.in_lanes(tasks).values())
+    with progress(lambda seconds: f"{seconds} s, {len(left)} of {len(crates)} left, now {', '.join(sorted(begun & left))}"):
+        return all(rt.in_lanes(tasks).values())
 
 
 def chains_of(tasks):
