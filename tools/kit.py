@@ -253,13 +253,18 @@ class Lanes:
         for at, key in enumerate(ready):
             is_first = all(self.chains[key] >= self.chains[it] for it in self.running)
             idle = self.processors - sum(jobs for jobs, _ in self.running.values())
-            jobs = max(2, min(4, idle)) if is_first else min(2, idle // (len(ready) - at)) or 1
-            needs = self.tasks[key][2] / 2 * (1 + 0.6 * (jobs - 1))
-            room = self.memory - sum(needs for _, needs in self.running.values())
-            if self.running and (needs > room or (idle < 1 and not is_first)):
-                continue
+            most = max(2, min(4, idle)) if is_first else min(2, idle // (len(ready) - at) or 1)
+            if idle > 0 or is_first:
+                self.begin(key, most, is_first)
+
+    def begin(self, key, most, is_first):
+        """Begins a task with so many jobs at most, if there is memory for it, or nothing else runs."""
+        room = self.memory - sum(needs for _, needs in self.running.values())
+        needs = {jobs: self.tasks[key][2] / 2 * (1 + 0.6 * (jobs - 1)) for jobs in range(1, most + 1)}
+        jobs = max((it for it in needs if needs[it] <= room), default=0 if self.running else 1)
+        if jobs:
             self.left.remove(key)
-            self.running[key] = min(jobs, 2), needs
+            self.running[key] = min(jobs, 2), needs[jobs]
             threading.Thread(target=self.work, args=(key, jobs, is_first), daemon=True).start()
 
     def work(self, key, jobs, is_first):
