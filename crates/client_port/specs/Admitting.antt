@@ -2,8 +2,8 @@
 --
 -- A port has seats that are for anybody, of which there may be a limit, and seats that are kept for the connections of single ips alone. A connection is *kept* on a seat of its
 -- own ip while one of these is free, and else on one that is for anybody. It is *refused* where it comes from another machine and those of this machine alone are let in, and where
--- all seats that are for anybody are taken and nobody has to go. *Has to go* who has a seat that is for anybody: first who owes the port's password, for longest; then of the ip from
--- which most came, and else of all, who has been silent for longest, listens to nothing and has nothing to do.
+-- all seats that are for anybody are taken and nobody has to go. *Has to go* who has a seat that is for anybody: first who owes the port's password, for longest; then who has been
+-- silent for longest, listens to nothing and has nothing to do: of an ip from which many came, which are at least half as many as came from any other, and else of all.
 use Rattle.std.specs.Prelude.{◌≡◌, ◌⊎◌, ◌-◌, ◌*◌, ℕ, Bool, true, false, not, ◌&&◌, nat_le, nat_lt, List, [], ◌∷◌, Option, None, Some}
 use Rattle.std.specs.Ordering.{nat_cmp}
 use Rattle.std.specs.BTreeMap.{BTreeMap, get}

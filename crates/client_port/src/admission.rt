@@ -30,9 +30,9 @@ pub struct Admission {
     /// without courtesies give none.
     pub password: Text,
     /// How many connections the port keeps at most beside those on kept seats. For a further one that goes which owes
-    /// the password for longest; else, of the ip from which most came, the one that has been silent for longest; where
-    /// none may go, its client is told so, and it is closed. With none the port keeps
-    /// those of its room, none goes, and a further one is closed.
+    /// the password for longest; else the one that has been silent for longest, if possible of an ip from which many
+    /// came; where none may go, its client is told so, and it is closed. With none the port keeps those of its room,
+    /// none goes, and a further one is closed.
     pub limit: Option<u16>,
     /// Whether clients of other machines are refused, which are told so.
     pub near_only: bool,

@@ -6,7 +6,7 @@ ghost use Rattle.client_port.specs.Admitting.{count_of};
 use std::alloc::{AllocError, Global};
 use std::collections::BTreeMap;
 
-/// Of each ip from which some came how many did, of those on seats that are for anybody.
+/// Of each ip from which some came how many did.
 #[derive(Drop)]
 pub(crate) struct Crowds {
     counts: BTreeMap<u32, usize>,
@@ -49,11 +49,18 @@ impl Crowds {
     }
 
     /// How many came from the ip from which most did.
-    pub(crate) fn most(&self) -> usize {
+    fn most(&self) -> usize {
         let mut most = 0;
         for count in self.counts.values() {
             most = most.max(*count);
         }
         most
+    }
+
+    /// From how many on those of an ip are many: half of the most. So no ip has many alone by one connection more, and
+    /// none keeps those of another one by as many of its own.
+    pub(crate) fn many(&self) -> usize {
+        let most = self.most();
+        most - most / 2
     }
 }

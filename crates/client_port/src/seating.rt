@@ -20,7 +20,7 @@ pub(crate) type Connections = Slab<Connection<TcpStream>>;
 
 /// A thread's connections by when they may have to go: `silent` has all by their last byte, but those that might not go
 /// when they were looked at last, which are `aside`; `strangers` has those that owe the password by when they came; and
-/// `crowds` counts them by their ips. `is_crowd_spent` is whether none from the ip from which most came might go when
+/// `crowds` counts them by their ips. `are_many_spent` is whether none of the ips from which many came might go when
 /// they were looked at last.
 #[derive(Drop)]
 pub(crate) struct Seating {
@@ -28,7 +28,7 @@ pub(crate) struct Seating {
     strangers: Ages,
     aside: KeyQueue,
     crowds: Crowds,
-    is_crowd_spent: bool,
+    are_many_spent: bool,
 }
 
 /// What becomes of the connection with this key, as the first of those that owe the password, which counts since this
@@ -50,7 +50,7 @@ impl Seating {
             strangers: Ages::new(alloc),
             aside: KeyQueue::new(alloc),
             crowds: Crowds::new(alloc),
-            is_crowd_spent: false,
+            are_many_spent: false,
         }
     }
 
@@ -65,7 +65,7 @@ impl Seating {
         Ok(())
     }
 
-    /// One more came from this ip, on a seat that is for anybody.
+    /// One more came from this ip.
     pub(crate) fn join_crowd(&mut self, ip: u32) -> Result<(), AllocError> {
         self.crowds.add(ip)
     }
@@ -95,18 +95,18 @@ impl Seating {
     fn look_at_silent_one(
         &self,
         connections: &Connections,
-        most: usize,
+        least: usize,
         since: u64,
         key: usize,
     ) -> Look
         ensures goes { result ≡ Goes → IfSome (get connections.now key) (λ c. (has_own_seat c.origin.place ≡ false)
             × (listens_of c.session ≡ false) × (unsent_of c.session ≡ [])) }
-        ensures crowd { result ≡ Goes → IfSome (get connections.now key) (λ c. most ≤ count_of self.now.crowds.counts c.origin.ip) }
+        ensures crowd { result ≡ Goes → IfSome (get connections.now key) (λ c. least ≤ count_of self.now.crowds.counts c.origin.ip) }
     {
         let Some(connection) = connections.get(key) else {
             return Look::Leaves;
         };
-        if self.crowds.count(connection.ip()) < most {
+        if self.crowds.count(connection.ip()) < least {
             return Look::Aside;
         }
         connection.standing().among_silent(since)
@@ -114,13 +114,13 @@ impl Seating {
 
     /// The connection that has been silent for longest, of those that may go and that came from an ip from which so
     /// many did.
-    fn silent_among(&mut self, connections: &Connections, most: usize) -> Option<usize>
+    fn silent_among(&mut self, connections: &Connections, least: usize) -> Option<usize>
         ensures goes { IfSome result (λ key. IfSome (get connections.now key) (λ c. (has_own_seat c.origin.place ≡ false)
             × (listens_of c.session ≡ false) × (unsent_of c.session ≡ []))) }
     {
         for _ in 0..self.silent.len() {
             let (since, key) = self.silent.first()?;
-            match self.look_at_silent_one(connections, most, since, key) {
+            match self.look_at_silent_one(connections, least, since, key) {
                 Look::Goes => return Some(key),
                 Look::Later(reading) => self.silent.put_off(reading),
                 Look::Aside => {
@@ -133,19 +133,19 @@ impl Seating {
         None
     }
 
-    /// The connection that has been silent for longest of those that may go: of the ip from which most came, and of
+    /// The connection that has been silent for longest of those that may go: of the ips from which many came, and of
     /// all where none of these may.
     fn longest_silent(&mut self, connections: &Connections) -> Option<usize>
         ensures goes { IfSome result (λ key. IfSome (get connections.now key) (λ c. (has_own_seat c.origin.place ≡ false)
             × (listens_of c.session ≡ false) × (unsent_of c.session ≡ []))) }
     {
-        if !self.is_crowd_spent {
-            let most = self.crowds.most();
-            if let Some(key) = self.silent_among(connections, most) {
+        if !self.are_many_spent {
+            let many = self.crowds.many();
+            if let Some(key) = self.silent_among(connections, many) {
                 return Some(key);
             }
             self.bring_back(connections);
-            self.is_crowd_spent = true;
+            self.are_many_spent = true;
         }
         self.silent_among(connections, 0)
     }
@@ -191,7 +191,7 @@ impl Seating {
     /// Any of them may be looked at again.
     pub(crate) fn look_again(&mut self, connections: &Connections) {
         self.bring_back(connections);
-        self.is_crowd_spent = false;
+        self.are_many_spent = false;
     }
 
     /// What becomes of the connection with this key, as the first of those that are silent, which counts since this

@@ -30,7 +30,7 @@ use Rattle.courteous_sessions.specs.Visits.{Guest, guest, IsUnanswered, Tells}
 use Rattle.port_sessions.specs.OnTheWay.{Refuses}
 use Rattle.courteous_sessions.specs.OnTheWay.{IsReady, RespondsIn, guest_of}
 use Rattle.courteous_sessions.specs.declared.going_on.TheConstants.{UNSENT_MAX}
-use Rattle.courteous_sessions.specs.GoingOn.{IsWithin, IsCommonAhead, IsValueAhead, Stops, StepsWithin, DrainsWithin, BreaksWithin, GoesOn, AddsAnswer, AddsNext, StopsInTime}
+use Rattle.courteous_sessions.specs.GoingOn.{IsWithin, IsCommonAhead, IsValueAhead, Stops, StepsWithin, DrainsWithin, BreaksWithin, GoesOn, AddsAnswer, AddsNext, StopsInTime, IsFullOf}
 use Rattle.courteous_sessions.proofs.Serving.{was_read, serves-push, shows_fault}
 use Rattle.courteous_sessions.proofs.Stepping.{common_tells}
 
@@ -97,10 +97,26 @@ pub adds_in_time : (start : World) (now : ℕ) (next : Option Reach) (unsent mid
 adds_in_time start now next unsent mid left is room adds = inr (mid, room, subst (λ (x : Option Reach). AddsNext start now x mid left) is adds)
 
 -- none more was given
+added_none : (start : World) (now : ℕ) (progress : Reach) (unsent left : List ℕ) → AddsNext start now (Some progress) unsent left → left ≡ unsent
+added_none start now Done unsent left same = same
+added_none start now Waits unsent left same = same
+added_none start now Full unsent left no = absurd no
+
 pub stops_in_time : (start : World) (now : ℕ) (next : Option Reach) (progress : Reach) (unsent mid left : List ℕ) → next ≡ Some progress → AddsNext start now next mid left
     → StopsInTime start now unsent mid → StopsInTime start now unsent left
 stops_in_time start now next progress unsent mid left is adds h =
-    subst (λ (t : List ℕ). StopsInTime start now unsent t) (sym (subst (λ (x : Option Reach). AddsNext start now x mid left) is adds)) h
+    subst (λ (t : List ℕ). StopsInTime start now unsent t) (sym (added_none start now progress mid left (subst (λ (x : Option Reach). AddsNext start now x mid left) is adds))) h
+
+-- it wasn't since so much is unsent
+full_at : (start : World) (now : ℕ) (progress : Reach) (unsent left : List ℕ) → AddsNext start now (Some progress) unsent left → IsFullOf {F = ServeFault} (Ok progress) left
+full_at start now Done unsent left same = tt
+full_at start now Waits unsent left same = tt
+full_at start now Full unsent left no = absurd no
+
+pub full_next : (start : World) (now : ℕ) (next : Option Reach) (progress : Reach) (unsent left : List ℕ) → next ≡ Some progress → AddsNext start now next unsent left
+    → IsFullOf {F = ServeFault} (Ok progress) left
+full_next start now next progress unsent left is adds =
+    full_at start now progress unsent left (subst (λ (x : Option Reach). AddsNext start now x unsent left) is adds)
 
 -- a value was answered
 pub value_adds : {Ready : Type 0} (start : World) (now : ℕ) (g h : Guest) (value : Frame) (before unsent put : List ℕ) → unsent ≡ before

@@ -136,6 +136,11 @@ module _ (start : World) (now : ℕ) (most : ℕ) (stream : List ℕ) (g : Guest
       subst (λ (t : List ℕ). IsWithin start now most stream g most (reading (t ++ rest)) bytes h) (sym none)
       (subst (λ (x : Option (Bor (List ℕ))). StepsInPlace start now most stream g (Ok x) rest bytes h) is it)
 
+  -- none more was answered, since so much is unsent
+  pub full_stopped : (held rest bytes : List ℕ) (h : Guest) → held ≡ [] → IsWithin start now most stream g most (reading rest) bytes h
+      → IsWithin start now most stream g most (reading (held ++ rest)) bytes h
+  full_stopped held rest bytes h none it = subst (λ (t : List ℕ). IsWithin start now most stream g most (reading (t ++ rest)) bytes h) (sym none) it
+
   -- a fault, however many values may store
   pub breaks_anyway : (fault : ServeFault) (bytes : List ℕ) (w : View) → BreaksWithin start now most stream g fault bytes w → Breaks start now stream g fault bytes w
   breaks_anyway (FaultyFrame fault) bytes w h = h.0

@@ -112,10 +112,12 @@ pub record AddsAnswer (start : World) (now : ℕ) (unsent left : List ℕ) : Typ
 abbrev pub StopsInTime : World → (now : ℕ) → (unsent left : List ℕ) → Type 0
 StopsInTime start now unsent left = (left ≡ unsent) ⊎ ((front : List ℕ) × (length front < UNSENT_MAX) × AddsAnswer start now front left)
 
--- what one step adds: one answer, or nothing where no more are given
+-- what one step adds: one answer, or nothing where no more are given; how much is unsent ends none
 abbrev pub AddsNext : World → (now : ℕ) → Option Reach → (unsent left : List ℕ) → Type 0
 AddsNext start now None unsent left = AddsAnswer start now unsent left
-AddsNext start now (Some progress) unsent left = left ≡ unsent
+AddsNext start now (Some Done) unsent left = left ≡ unsent
+AddsNext start now (Some Waits) unsent left = left ≡ unsent
+AddsNext start now (Some Full) unsent left = ⊥
 
 abbrev pub AddsInPlace : {X : Type 0} → World → (now : ℕ) → Option X → (unsent left : List ℕ) → Type 0
 AddsInPlace start now (Some rest) unsent left = AddsAnswer start now unsent left

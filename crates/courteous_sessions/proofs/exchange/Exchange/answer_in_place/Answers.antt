@@ -2,7 +2,7 @@ use Rattle.std.proofs.Common.{◌∙◌, ◌++◌, [], ap, append-nil, inl, refl
 use Rattle.resp2.specs.Framing.Stream.{reading, bytes_in}
 use Rattle.courteous_sessions.specs.OnTheWay.{guest_of}
 use Rattle.courteous_sessions.proofs.GoingOn.{first_within}
-use Rattle.courteous_sessions.proofs.InPlace.{begins_in_place, front_went_on, front_stopped, front_in_time, front_ends_in_time}
+use Rattle.courteous_sessions.proofs.InPlace.{begins_in_place, front_went_on, front_stopped, front_in_time, front_ends_in_time, full_stopped}
 use Rattle.courteous_sessions.proofs.exchange.Exchange.answer_in_place.Goals as goal
 
 pub returns-then-not-self-clause-answered : goal.returns-then-not-self-clause-answered
@@ -95,3 +95,15 @@ pub returns-in-Ok-None-clause-in_time : goal.returns-in-Ok-None-clause-in_time
 returns-in-Ok-None-clause-in_time g c =
     front_ends_in_time c.args.cell.now.start c.args.now c.in-Ok-None.field-0 c.args.self.now.responder.unsent.items c.loop-more.self.responder.unsent.items
     c.answer_front.new.self.responder.unsent.items c.in-Ok-None.field-0-is c.in-Ok-None.ensures.one c.loop-more.invariant.6
+
+pub returns-then-is_full-clause-answered : goal.returns-then-is_full-clause-answered
+returns-then-is_full-clause-answered g c = λ most.
+    let before = c.args.self.now in
+    let so_far = c.loop-more.self in
+    let on = c.loop-more.invariant.5 most in (
+      on.0,
+      on.1,
+      full_stopped c.args.cell.now.start c.args.now most (bytes_in before.attendant.held ++ c.args.piece.now)
+          (guest_of before.attendant before.subscriptions before.responder.hears c.args.seat.now.view) (bytes_in before.attendant.held) c.loop-more.rest.now on.0
+          (guest_of so_far.attendant so_far.subscriptions so_far.responder.hears c.loop-more.seat.view) (ap bytes_in (c.requires.direct c.if-not-self.false).none_held) on.2,
+    )

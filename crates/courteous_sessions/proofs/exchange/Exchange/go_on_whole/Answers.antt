@@ -1,6 +1,6 @@
 use Rattle.std.proofs.Common.{◌∙◌, ap, Ok}
 use Rattle.courteous_sessions.specs.OnTheWay.{guest_of}
-use Rattle.courteous_sessions.proofs.GoingOn.{went_on, stopped, full_within, adds_in_time, stops_in_time}
+use Rattle.courteous_sessions.proofs.GoingOn.{went_on, stopped, full_within, adds_in_time, stops_in_time, full_next}
 use Rattle.courteous_sessions.proofs.exchange.Exchange.go_on_whole.Goals as goal
 
 pub loop-self-preserved : goal.loop-self-preserved
@@ -52,3 +52,8 @@ pub returns-in-Ok-Some-clause-in_time : goal.returns-in-Ok-Some-clause-in_time
 returns-in-Ok-Some-clause-in_time g c =
     stops_in_time c.args.cell.now.start c.args.now c.in-Ok-Some.field-0 c.in-Ok-Some.progress c.args.self.now.responder.unsent.items c.loop-self.self.responder.unsent.items
     c.go_on_next.new.self.responder.unsent.items c.in-Ok-Some.field-0-is c.in-Ok-Some.ensures.one c.loop-self.invariant.4
+
+pub returns-in-Ok-Some-clause-full : goal.returns-in-Ok-Some-clause-full
+returns-in-Ok-Some-clause-full g c =
+    full_next c.args.cell.now.start c.args.now c.in-Ok-Some.field-0 c.in-Ok-Some.progress c.loop-self.self.responder.unsent.items c.go_on_next.new.self.responder.unsent.items
+    c.in-Ok-Some.field-0-is c.in-Ok-Some.ensures.one
