@@ -188,7 +188,7 @@ fn watch<'a>(alloc: Global) -> Result<Command<'a>, AllocError> {
         .long("times")
         .action(ArgAction::SetTrue)
         .help(
-            "Begins each note with the time; without this word where standard error isn't the journal of systemd",
+            "Begins each note with the time, as without this word where standard error isn't systemd's journal",
         );
     let no_times = Arg::new(alloc, "no-times")
         .long("no-times")
