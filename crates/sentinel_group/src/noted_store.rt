@@ -142,7 +142,10 @@ impl<'a, S: TellsFault + Drop, R: Log> NotedStore<'a, S, R> {
         {
             let noting = self.noting.span("sentinel").with("port", self.port);
             let (path, millis) = (self.path.as_str(), took.as_millis());
-            warn!(noting; "storing {path} took {millis} ms, for which votes wait: see its disk");
+            warn!(noting;
+                "storing {path} took {millis} ms: votes and failovers wait for it, so see its disk and what else \
+                writes there"
+            );
         }
     }
 

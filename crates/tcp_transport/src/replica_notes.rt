@@ -145,7 +145,9 @@ impl ReplicaNotes {
             let (name, addr) = (named(&watched.name), Told(roster.addr_at(at)));
             let seconds = down_for / 1_000;
             warn!(rt; target: "tcp_wires::replica_notes",
-                "replica {addr} of {name} has had no link to its master for {seconds} s: it gets no writes, and isn't chosen once the link is down for too long. See its own log, the network between the two, and `masterauth` and `masteruser` on it"
+                "replica {addr} of {name} has had no link to its master for {seconds} s: it gets no writes, and isn't \
+                chosen once the link is down for too long. See its own log, the network between the two, and \
+                `masterauth` and `masteruser` on it"
             );
         }
     }
