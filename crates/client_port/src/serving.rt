@@ -75,7 +75,7 @@ impl Clients {
         false
     }
 
-    /// Has one connection read and answer, and drops it where it is broken.
+    /// Has one connection read and answer, and drops it where it is broken. The clock's reading is that of its end.
     #[tactic(auto, using(crate::proofs::Keeping::kept_few, crate::proofs::Keeping::others_kept, crate::proofs::Keeping::others_closed))]
     fn answer_one<J: Which, S: ConfStore, R: Wait + Clock>(
         &mut self,
@@ -95,6 +95,7 @@ impl Clients {
         self.roll.count(&*self.seats, began);
         self.roll.swap(connection);
         let is_whole = connection.turn(rt, state, member, seat, began);
+        self.reading = state.clock.now(rt);
         self.roll.swap(connection);
         self.roll.note(key, connection);
         self.seats.note_answered(connection.take_answered());

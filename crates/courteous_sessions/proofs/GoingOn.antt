@@ -100,7 +100,7 @@ adds_in_time start now next unsent mid left is room adds = inr (mid, room, subst
 added_none : (start : World) (now : ℕ) (progress : Reach) (unsent left : List ℕ) → AddsNext start now (Some progress) unsent left → left ≡ unsent
 added_none start now Done unsent left same = same
 added_none start now Waits unsent left same = same
-added_none start now Full unsent left no = absurd no
+added_none start now Full unsent left never = absurd never
 
 pub stops_in_time : (start : World) (now : ℕ) (next : Option Reach) (progress : Reach) (unsent mid left : List ℕ) → next ≡ Some progress → AddsNext start now next mid left
     → StopsInTime start now unsent mid → StopsInTime start now unsent left
@@ -111,7 +111,7 @@ stops_in_time start now next progress unsent mid left is adds h =
 full_at : (start : World) (now : ℕ) (progress : Reach) (unsent left : List ℕ) → AddsNext start now (Some progress) unsent left → IsFullOf {F = ServeFault} (Ok progress) left
 full_at start now Done unsent left same = tt
 full_at start now Waits unsent left same = tt
-full_at start now Full unsent left no = absurd no
+full_at start now Full unsent left never = absurd never
 
 pub full_next : (start : World) (now : ℕ) (next : Option Reach) (progress : Reach) (unsent left : List ℕ) → next ≡ Some progress → AddsNext start now next unsent left
     → IsFullOf {F = ServeFault} (Ok progress) left

@@ -5,8 +5,8 @@ use Rattle.courteous_sessions.specs.GoingOn.{IsWithin, StopsInTime}
 use Rattle.courteous_sessions.proofs.exchange.Exchange.answer_in_place.Given as goal
 
 -- nothing of what is known changes, and what was within it is so still, with more answers
-abbrev pub invariant-loop-more : goal.invariant-loop-more
-invariant-loop-more g l =
+abbrev pub invariant-loop-rest : goal.invariant-loop-rest
+invariant-loop-rest g l =
     (l.seat.cell ≡ l.initial.seat.cell)
     × IsReady l.self.attendant l.self.subscriptions l.self.responder.hears
     × (l.self.attendant ≡ l.initial.self.attendant)
@@ -18,5 +18,5 @@ invariant-loop-more g l =
     (guest_of l.self.attendant l.self.subscriptions l.self.responder.hears l.seat.view))
     × StopsInTime l.fn.cell.start l.fn.now l.initial.self.responder.unsent.items l.self.responder.unsent.items
 
-abbrev pub decreases-loop-more : goal.decreases-loop-more
-decreases-loop-more g l = length l.rest
+abbrev pub decreases-loop-rest : goal.decreases-loop-rest
+decreases-loop-rest g l = length l.rest
