@@ -1,5 +1,5 @@
 use Rattle.std.proofs.Common.{◌≡◌}
-use Rattle.client_port.proofs.serving.Clients.next_voter.Given as goal
+use Rattle.client_port.proofs.clients.Clients.next_voter.Given as goal
 
 -- no connection was touched so far
 abbrev pub invariant-loop : goal.invariant-loop
