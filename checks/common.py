@@ -19,6 +19,7 @@ import re
 import shutil
 import socket
 import statistics
+import subprocess
 import sys
 import tempfile
 import threading
@@ -31,6 +32,8 @@ import kit
 
 # The proved program where there is one of the sources as they are, else the unproved one; where there is neither, the place of the proved one.
 PROGRAM = os.environ.get("SENTINEL_GROUP") or kit.kept("proved") or kit.kept("unproved") or os.path.join(kit.OUT, "proved", kit.PROGRAM)
+# `watch`, whose notes begin without the time, so that a check may look at how they begin.
+WATCH = [PROGRAM, "watch", "--no-times"]
 PACKAGES = {
     "cc": "apt-get install gcc",
     "dpkg-deb": "apt-get install dpkg",
@@ -102,6 +105,12 @@ def need():
         print(f"{os.path.relpath(path, TOP)} needs {line}", file=sys.stderr)
     if missing:
         sys.exit(2)
+
+
+def watch_words(program):
+    """The words of `watch` without times at a program that may be an older one, which has no times and no word against them."""
+    told = subprocess.run([program, *WATCH[1:-1], "--help"], stdin=subprocess.DEVNULL, stdout=subprocess.PIPE, text=True).stdout
+    return WATCH[1:] if WATCH[-1] in told else WATCH[1:-1]
 
 
 # --- commands, files and ports ---

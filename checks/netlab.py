@@ -17,7 +17,7 @@ import time
 
 import common
 import disks
-from common import PROGRAM
+from common import WATCH
 
 NET = "10.77.0"
 NOBODY = "02:00:00:00:00:99"
@@ -208,7 +208,7 @@ class Lab:
             self.disks[name] = disks.Disk(os.path.dirname(path))
             with open(path, "w", encoding="ascii") as out:
                 out.write("\n".join(self._lines(self.sentinels.index(name))) + "\n")
-        return [PROGRAM, "watch", path] if self.kind(name) == "ours" else ["redis-sentinel", path]
+        return [*WATCH, path] if self.kind(name) == "ours" else ["redis-sentinel", path]
 
     def _lines(self, place):
         own = self.sentinels[place]

@@ -14,6 +14,8 @@ import importlib.machinery
 import importlib.util
 import json
 import os
+import queue
+import re
 import shutil
 import signal
 import subprocess
@@ -26,8 +28,8 @@ import edits
 TOP = os.path.dirname(os.path.dirname(os.path.realpath(__file__)))
 OUT = f"{TOP}/out"
 PROGRAM = "sentinel_group"
-# A crate of more lines than that gets four jobs.
-LONG = 2_500
+# How much nicer whatever isn't of the longest chain is.
+SIDE = 5
 # How many programs of each kind stay, the newest, so that whoever goes back to earlier sources finds theirs.
 STAY = 4
 
@@ -44,6 +46,7 @@ def load():
     # (its first call sets a signal's handler, which only the main thread may)
     rt.rtlib.guarded()
     sum_once(rt.rtlib.Crate)
+    rt.in_lanes = lambda tasks: Lanes(rt, tasks).run()
     os.chdir(TOP)
     return rt
 
@@ -75,6 +78,22 @@ def log_of(crate):
     """The file for what the prover says of a crate."""
     os.makedirs(f"{OUT}/log", exist_ok=True)
     return f"{OUT}/log/{crate.name}.log"
+
+
+def refusal(rt, crate, crates):
+    """Why the crate's text is refused, if it is: rt ci's own tests of it, which print what they find."""
+    code = rt.rtlib.code_of(crate.folder)
+    beyond = [it for it, words in rt.REACHES.items() if it not in rt.handles_of(TOP) and re.search(words, code)]
+    if beyond or re.search(rt.RENAMES, code) or re.search(rt.IGNORED, code):
+        return f"it reaches past HANDLES ({', '.join(beyond)}), renames std, or ignores a test"
+    try:
+        rt.rtlib.stop_on_links(crate.folder)
+        rt.rtlib.stop_on_unread(crate.folder, crates)
+        rt.rtlib.stop_on_text(crate, "verdict")
+        rt.stop_on_words(crate)
+    except SystemExit:
+        return "its words are refused"
+    return "it is not in the layout" if rt.rtlib.fmt(crate.folder, "--check", crate.out) else None
 
 
 def place_of_sources():
@@ -141,17 +160,40 @@ def in_turn(kind):
         yield
 
 
+@contextlib.contextmanager
+def progress(tell):
+    """Shows what `tell` says of long work, each second anew in one line, where standard error is a terminal. It gets the seconds since the work began."""
+    began, is_over = time.monotonic(), threading.Event()
+
+    def show():
+        while not is_over.wait(1):
+            width = shutil.get_terminal_size().columns - 1
+            print(f"\r\033[K{tell(int(time.monotonic() - began))[:width]}", end="", file=sys.stderr, flush=True)
+
+    shown = threading.Thread(target=show, daemon=True)
+    if sys.stderr.isatty():
+        shown.start()
+    try:
+        yield
+    finally:
+        is_over.set()
+        if shown.is_alive():
+            shown.join()
+            print("\r\033[K", end="", file=sys.stderr, flush=True)
+
+
 def side_by_side(rt, crates, make):
     """Makes each crate once those below it are made, as many at a time as there is room for, those with the longest chain of others above first, and
     says what came of each and how many are left. `make` gets a crate and how many jobs it may use, and tells how the crate came to stand, or
     None. Returns whether all stand."""
     # (Python's own handler would wait for the commands that threads have begun)
     signal.signal(signal.SIGINT, signal.SIG_DFL)
-    left, saying = {it.name for it in crates}, threading.Lock()
+    left, begun, saying = {it.name for it in crates}, set(), threading.Lock()
 
     def task(crate, given, jobs):
         lacking = [it.name for it in crate.below() if not given[it.name, "proof"]]
         began = time.time()
+        begun.add(crate.name)
         came = None if lacking else make(crate, jobs)
         with saying:
             left.discard(crate.name)
@@ -164,54 +206,77 @@ def side_by_side(rt, crates, make):
         # (rt gives what it calls a proof the processors that nothing else waits for)
         below = [(it.name, "proof") for it in crate.below()]
         tasks[crate.name, "proof"] = (below, crate.count(rb"\n"), rt.need(crate), functools.partial(task, crate))
-    return all(rt.in_lanes(tasks).values())
+    with progress(lambda seconds: f"{seconds} s, {len(left)} of {len(crates)} left, now {', '.join(sorted(begun & left))}"):
+        return all(rt.in_lanes(tasks).values())
 
 
-def in_places(crates, make, places):
-    """Makes each crate once those below it are made, the one with the longest chain of others above first, with two jobs each, or four where a crate is
-    long, and at most `places` jobs at once. Memory isn't looked at. Returns whether all stand, and says what came of each."""
-    names, left, jobs, stands = {it.name for it in crates}, list(crates), {}, {}
-    lines = {it.name: it.count(rb"\n") for it in crates}
-    chains, turn = {}, threading.Condition()
-    for it in sorted(crates, key=lambda it: -len(it.below())):
-        above = [chains[up.name] for up in crates if it.name in {low.name for low in up.below()}]
-        chains[it.name] = lines[it.name] + max(above, default=0)
+def chains_of(tasks):
+    """Of each task the work of the longest chain that begins with it, in lines."""
+    # (a task comes after those that it waits for)
+    chains = dict.fromkeys(tasks, 0)
+    for key in reversed([*tasks]):
+        before, work, _, _ = tasks[key]
+        chains[key] += work
+        for it in before:
+            chains[it] = max(chains[it], chains[key])
+    return chains
 
-    def task(crate, given):
-        began = time.time()
+
+class Lanes:
+    """Tasks that run side by side, as by rt's `in_lanes`, which gives each proof one job where others are ready: then the longest chain takes most of the time,
+    while processors have nothing to do.
+
+    Here the task at which the longest chain begins doesn't wait for a processor, and gets two to four jobs, of which two count, since a proof ends with a part that
+    is done by one; the others are nicer than it. A proof takes half the memory that rt reckons, or less, as was measured on 1 December 2026 for each crate."""
+
+    def __init__(self, rt, tasks):
+        number = os.environ.get("RT_JOBS", "")
+        self.processors, self.memory = int(number) if number.isdigit() and int(number) else rt.processors(), 0.85 * rt.free()
+        self.tasks, self.chains = tasks, chains_of(tasks)
+        self.left, self.running, self.given = sorted(tasks, key=lambda it: -self.chains[it]), {}, {}
+        self.ended = queue.SimpleQueue()
+
+    def run(self):
+        """Runs all of them, and returns what each gave."""
+        while self.left or self.running:
+            self.begin_all()
+            key, given, error = self.ended.get()
+            del self.running[key]
+            if error:
+                raise error
+            self.given[key] = given
+        return self.given
+
+    def begin_all(self):
+        """Begins each task for which there is room now."""
+        ready = [it for it in self.left if all(below in self.given for below in self.tasks[it][0])]
+        for at, key in enumerate(ready):
+            is_first = all(self.chains[key] >= self.chains[it] for it in self.running)
+            idle = self.processors - sum(jobs for jobs, _ in self.running.values())
+            most = max(2, min(4, idle)) if is_first else min(2, idle // (len(ready) - at) or 1)
+            if idle > 0 or is_first:
+                self.begin(key, most, is_first)
+
+    def begin(self, key, most, is_first):
+        """Begins a task with so many jobs at most, if there is memory for it, or nothing else runs."""
+        room = self.memory - sum(needs for _, needs in self.running.values())
+        needs = {jobs: self.tasks[key][2] / 2 * (1 + 0.6 * (jobs - 1)) for jobs in range(1, most + 1)}
+        jobs = max((it for it in needs if needs[it] <= room), default=0 if self.running else 1)
+        if jobs:
+            self.left.remove(key)
+            self.running[key] = min(jobs, 2), needs[jobs]
+            threading.Thread(target=self.work, args=(key, jobs, is_first), daemon=True).start()
+
+    def work(self, key, jobs, is_first):
+        """Does a task in a thread of its own, whose commands are as nice as it."""
+        given = error = None
+        if not is_first:
+            os.setpriority(os.PRIO_PROCESS, threading.get_native_id(), min(19, os.nice(0) + SIDE))
         try:
-            came = make(crate, given)
-        except SystemExit:
-            came = None
-        with turn:
-            del jobs[crate.name]
-            stands[crate.name] = came is not None
-            why = came or f"NOT PROVED, see {os.path.relpath(log_of(crate), TOP)}"
-            print(f"{crate.name}: {why}, {time.time() - began:.0f} s; {len(crates) - len(stands)} of {len(crates)} left", flush=True)
-            turn.notify()
-
-    def next_one():
-        ready = [it for it in left if all(stands.get(low.name) or low.name not in names for low in it.below())]
-        for it in sorted(ready, key=lambda it: -chains[it.name]):
-            wanted = 4 if lines[it.name] > LONG else 2
-            if not jobs or sum(jobs.values()) + wanted <= places:
-                return it, wanted
-        return None, 0
-
-    with turn:
-        while len(stands) < len(crates):
-            for it in [it for it in left if any(stands.get(low.name) is False for low in it.below())]:
-                left.remove(it)
-                stands[it.name] = False
-                print(f"{it.name}: not tried, since a crate below it is not proved", flush=True)
-            crate, wanted = next_one()
-            if crate:
-                left.remove(crate)
-                jobs[crate.name] = wanted
-                threading.Thread(target=task, args=(crate, wanted), daemon=True).start()
-            elif jobs:
-                turn.wait()
-    return all(stands.values())
+            given = self.tasks[key][3](self.given, jobs)
+        except BaseException as it:  # (the caller's thread raises it)
+            error = it
+        self.ended.put((key, given, error))
 
 
 def sum_of_crate(folder):

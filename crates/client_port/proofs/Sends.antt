@@ -1,7 +1,11 @@
 -- What is read and sent by one call after the other, where the bytes may be unknown.
-use Rattle.std.proofs.Common.{ℕ, List, [], ◌++◌, take, drop, Option, None, Some, append_assoc, sym, refl, ◌∙◌, ap}
+use Rattle.std.proofs.Common.{◌≡◌, ℕ, List, [], ◌++◌, take, drop, Option, None, Some, append_assoc, sym, refl, ◌∙◌, ap}
 use Rattle.std.specs.Io.KnownBytes.{Consumes, Appends, Keeps}
 use Rattle.std.proofs.lemmas.List.{append-nil, take-append-drop}
+use Rattle.client_commands.specs.Ports.{PortFacts}
+use Rattle.courteous_sessions.specs.Clients.{unsent_of, knowing_port}
+use Rattle.courteous_sessions.specs.declared.client_session.ClientSession.{ClientSession}
+use Rattle.courteous_sessions.specs.declared.client_session.ClientSession.TheVariants.{Plain, Courteous}
 use Rattle.client_port.specs.Sending.{IsSent}
 
 pub consumes_nothing : (a b : Option (List ℕ)) → Keeps a b → Consumes a b []
@@ -33,3 +37,8 @@ sent_twice a b c unsent middle left h k =
 pub sent_nothing : (a : Option (List ℕ)) (unsent : List ℕ) → IsSent a a unsent unsent
 sent_nothing None unsent = ([], refl, tt)
 sent_nothing (Some old) unsent = ([], refl, sym (append-nil old))
+
+-- what a session knows of its port is none of what is unsent
+pub unsent_known : (session : ClientSession) (port : PortFacts) → unsent_of (knowing_port session port) ≡ unsent_of session
+unsent_known (Plain talk) port = refl
+unsent_known (Courteous visit) port = refl

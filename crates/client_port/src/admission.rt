@@ -6,12 +6,11 @@ ghost use Rattle.client_port.specs.declared.port_room.TheConstants.{SEATS_MAX};
 ghost use Rattle.client_port.specs.declared.seats.TheConstants.{SEATS_OF_EACH};
 ghost use Rattle.client_port.specs.Admitting.{arrival_of, is_full};
 
+use crate::incoming::Incoming;
 use crate::port_room::{CONNECTIONS_MAX, PortRoom, SEATS_MAX};
 use crate::seats::SEATS_OF_EACH;
 use ballot_law::{SENTINELS_MAX, Text};
-use mio::net::TcpStream;
 use std::alloc::Global;
-use std::io::Write;
 
 /// How many connections may come to each of several threads of a port while as many others go.
 const AT_ONCE: usize = 64;
@@ -30,9 +29,10 @@ pub struct Admission {
     /// The password that each client has to give before a command of its is carried out; an empty one is none. Clients
     /// without courtesies give none.
     pub password: Text,
-    /// How many connections the port keeps at most beside those on kept seats. For a further one that goes which has
-    /// been silent for longest; where none may go, its client is told so, and it is closed. With none the port keeps
-    /// those of its room, none goes, and a further one is closed.
+    /// How many connections the port keeps at most beside those on kept seats. For a further one that goes which owes
+    /// the password for longest; else the one that has been silent for longest, if possible of an ip from which many
+    /// came; where none may go, its client is told so, and it is closed. With none the port keeps those of its room,
+    /// none goes, and a further one is closed.
     pub limit: Option<u16>,
     /// Whether clients of other machines are refused, which are told so.
     pub near_only: bool,
@@ -181,16 +181,11 @@ pub(crate) fn arrival_of(
 }
 
 /// Tells the client of a connection that it is one too many, and closes it.
-pub(crate) fn refuse_further(stream: TcpStream) {
-    close_with(stream, FULL);
+pub(crate) fn refuse_further(stream: Incoming) {
+    stream.refuse(FULL);
 }
 
 /// Tells the client of a connection that it comes from another machine, and closes it.
-pub(crate) fn refuse_foreign(stream: TcpStream) {
-    close_with(stream, DENIED);
-}
-
-/// Closes a connection after this line, of which its client gets what the system takes at once.
-fn close_with(mut stream: TcpStream, line: &[u8]) {
-    drop(stream.write(line));
+pub(crate) fn refuse_foreign(stream: Incoming) {
+    stream.refuse(DENIED);
 }

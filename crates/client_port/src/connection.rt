@@ -1,10 +1,11 @@
 //! One client's connection.
 
-ghost use Rattle.std.specs.Prelude.{◌≡◌, ◌<◌, ◌↔◌, ◌⊎◌, ◌++◌, ℕ, List, [], IsTrue, false, true, length};
+ghost use Rattle.std.specs.Prelude.{◌≡◌, ◌<◌, ◌↔◌, ◌⊎◌, ◌++◌, ℕ, List, [], IsTrue, None, false, true, length};
 ghost use Rattle.std.specs.Io.KnownBytes.{Consumes};
-ghost use Rattle.courteous_sessions.specs.Clients.{unsent_of, listens_of, owes_password};
-ghost use Rattle.client_port.specs.Admitting.{has_own_seat};
-ghost use Rattle.client_port.specs.Sending.{IsSent, IsHanded, waits_after};
+ghost use Rattle.courteous_sessions.specs.Clients.{unsent_of, listens_of, owes_password, port_before, knowing_port};
+ghost use Rattle.courteous_sessions.specs.declared.going_on.TheConstants.{UNSENT_MAX};
+ghost use Rattle.client_port.specs.Admitting.{has_own_seat, is_stuck};
+ghost use Rattle.client_port.specs.Sending.{IsSent, IsHanded, holds_values, reach_after, most_of, line_of};
 
 use crate::read_buffer::{PIECE, ReadBuffer};
 use crate::seats::Place;
@@ -12,29 +13,31 @@ use crate::standing::Standing;
 use crate::waiting::Line;
 use ballot_law::NoMemory;
 use client_commands::{PortFacts, Protocol};
-use courteous_sessions::{ClientSession, Reach};
+use courteous_sessions::{ClientSession, Reach, UNSENT_MAX};
+use mio::net::TcpStream;
+use mio::{Interest, Registry, Token};
 use sentinel_conf::ConfStore;
 use sentinel_core::ServeFault;
 use sentinel_runtime::{News, RunFault, RunState, RunningSentinel, ThreadSeat, Which};
-use std::io::{ErrorKind, Read, Write};
+use std::io::{self, ErrorKind, Read, Write};
 use std::rt::Clock;
 use std::sync::Wait;
 
 /// How many times a connection reads, and hands bytes over, before the others have their turn.
 const STEPS_MAX: u32 = 16;
 
-/// How many bytes may wait to be sent before the connection is read no further, and no more of what was read is
-/// answered.
-pub(crate) const UNSENT_MAX: usize = 1_048_576;
-
 /// With how many bytes that wait to be sent a connection is closed at an event: its client doesn't read them.
 const TOLD_MAX: usize = 2 * UNSENT_MAX;
 
-/// Whence a connection came: on which seat it is kept, whether another Sentinel has its ip, and the clock's reading
-/// in milliseconds when it came.
+/// For how long a client that listens may leave what it was told unsent, in milliseconds.
+const STUCK_MS: u64 = 60_000;
+
+/// Whence a connection came: on which seat it is kept, the number of its ip, whether another Sentinel has that, and the
+/// clock's reading in milliseconds when it came.
 #[derive(Clone, Copy)]
 pub(crate) struct Origin {
     pub(crate) place: Place,
+    pub(crate) ip: u32,
     pub(crate) is_peer: bool,
     pub(crate) came: u64,
 }
@@ -42,31 +45,53 @@ pub(crate) struct Origin {
 /// A client's connection with its session.
 ///
 /// `readable` is whether the system told of bytes that may not be read yet. `half` is whether its client has ended
-/// its stream or broken off, as the system told: then the end is still to be read after the last piece. `stores` is
-/// whether its session holds a whole value that waits, as its answer may be stored: until that comes no more is read.
-/// `ends` is whether no more of it is read or answered: it is closed once all is sent. `heard` is the clock's reading
-/// of the turn that read its last byte, or of when it came. `counted` is how many bytes were unsent when that was
-/// looked at last.
+/// its stream or broken off, as the system told: then the end is still to be read after the last piece. `reach` is how
+/// far the answers of its session reach: where that holds values that wait, since the answer to the next one may be
+/// stored or so much is unsent, no more is read until they are answered. `ends` is whether no more of it is read or
+/// answered: it is closed once all is sent. `heard` is the clock's reading of the turn that read its last byte, or of
+/// when it came. `counted` is how many bytes were unsent when that was looked at last, and `stuck` since when some were
+/// of which none was taken. Nobody but `send` writes to the stream.
 #[derive(Drop)]
 pub(crate) struct Connection<T: Drop> {
     stream: T,
     session: ClientSession,
     readable: bool,
     half: bool,
-    stores: bool,
+    reach: Reach,
     ends: bool,
     origin: Origin,
     heard: u64,
     counted: usize,
+    stuck: Option<u64>,
 }
 
-/// Whether a value waits after such a call of the session.
-fn is_put_off(progress: &Result<Reach, ServeFault>) -> bool
-    ensures { result ≡ waits_after progress.now }
+/// How far the answers reach after such a call of the session; a session that ended holds none that waits.
+fn reach_after(progress: &Result<Reach, ServeFault>) -> Reach
+    ensures { result ≡ reach_after progress.now }
 {
     match progress {
-        Ok(Reach::Waits) => true,
-        Ok(Reach::Done) | Err(_) => false,
+        Ok(reach) => *reach,
+        Err(_) => Reach::Done,
+    }
+}
+
+/// Whether values wait where the answers reach so far.
+fn holds_values(reach: Reach) -> bool
+    ensures { result ≡ holds_values reach }
+{
+    match reach {
+        Reach::Done => false,
+        Reach::Waits | Reach::Full => true,
+    }
+}
+
+/// How many values that may store are answered in a turn where the answers reached so far.
+fn most_of(reach: Reach) -> u64
+    ensures { result ≡ most_of reach }
+{
+    match reach {
+        Reach::Waits => 1,
+        Reach::Done | Reach::Full => 0,
     }
 }
 
@@ -78,17 +103,13 @@ impl<T: Drop> Connection<T> {
             session,
             readable: false,
             half: false,
-            stores: false,
+            reach: Reach::Done,
             ends: false,
             origin,
             heard: origin.came,
             counted: 0,
+            stuck: None,
         }
-    }
-
-    /// What it is read from.
-    pub(crate) fn stream_mut(&mut self) -> &mut T {
-        &mut self.stream
     }
 
     /// On which seat it is kept.
@@ -96,6 +117,13 @@ impl<T: Drop> Connection<T> {
         ensures { result ≡ self.now.origin.place }
     {
         self.origin.place
+    }
+
+    /// The number of its client's ip.
+    pub(crate) fn ip(&self) -> u32
+        ensures { result ≡ self.now.origin.ip }
+    {
+        self.origin.ip
     }
 
     /// Whether its client listens.
@@ -112,6 +140,13 @@ impl<T: Drop> Connection<T> {
         self.heard
     }
 
+    /// How many bytes are unsent.
+    pub(crate) fn left(&self) -> usize
+        ensures { result ≡ length (unsent_of self.now.session) }
+    {
+        self.session.unsent().len()
+    }
+
     /// How many bytes were unsent when that was looked at last.
     pub(crate) fn counted(&self) -> usize
         ensures { result ≡ self.now.counted }
@@ -119,13 +154,28 @@ impl<T: Drop> Connection<T> {
         self.counted
     }
 
-    /// How many bytes are unsent, which is looked at.
-    pub(crate) fn count_unsent(&mut self) -> usize
+    /// How many bytes are unsent, which is looked at, at this reading of the clock.
+    pub(crate) fn count_unsent(&mut self, now: u64) -> usize
         ensures count { result ≡ length (unsent_of self.old.session) }
-        ensures rest { self.new ≡ record self.old { counted = result } }
+        ensures rest { self.new ≡ record self.old { counted = result; stuck = self.new.stuck } }
     {
         self.counted = self.session.unsent().len();
+        if self.counted == 0 {
+            self.stuck = None;
+        } else if self.stuck.is_none() {
+            self.stuck = Some(now);
+        }
         self.counted
+    }
+
+    /// Whether some of it was unsent for `STUCK_MS`, of which none was taken meanwhile.
+    pub(crate) fn is_stuck(&self, now: u64) -> bool
+        ensures { result ≡ is_stuck self.now.stuck now }
+    {
+        match self.stuck {
+            Some(since) => now.saturating_sub(since) >= STUCK_MS,
+            None => false,
+        }
     }
 
     /// Gives back the room in which nothing is held.
@@ -136,7 +186,10 @@ impl<T: Drop> Connection<T> {
     }
 
     /// Has its session know this of the port: what it knew before.
-    pub(crate) fn know_port(&mut self, port: PortFacts) -> PortFacts {
+    pub(crate) fn know_port(&mut self, port: PortFacts) -> PortFacts
+        ensures before { result ≡ port_before self.old.session port }
+        ensures now { self.new ≡ record self.old { session = knowing_port self.old.session port } }
+    {
         self.session.know_port(port)
     }
 
@@ -195,11 +248,14 @@ impl<T: Drop> Connection<T> {
     }
 
     /// In which line it waits where it has something to do.
-    pub(crate) fn line(&self) -> Line {
-        match (self.stores, self.origin.is_peer) {
-            (false, _) => Line::Plain,
-            (true, true) => Line::PeerVoter,
-            (true, false) => Line::OtherVoter,
+    pub(crate) fn line(&self) -> Line
+        ensures { result ≡ line_of self.now.reach self.now.origin.is_peer }
+    {
+        match (self.reach, self.origin.is_peer) {
+            (Reach::Waits, true) => Line::PeerVoter,
+            (Reach::Waits, false) => Line::OtherVoter,
+            (Reach::Done | Reach::Full, true) => Line::Peer,
+            (Reach::Done | Reach::Full, false) => Line::Plain,
         }
     }
 
@@ -209,19 +265,15 @@ impl<T: Drop> Connection<T> {
         self.half |= half;
     }
 
-    /// Whether a whole value waits, as its answer may be stored.
-    pub(crate) fn stores(&self) -> bool
-        ensures { result ≡ self.now.stores }
-    {
-        self.stores
-    }
-
     /// Whether a turn has something to do: there is something to read or to answer, it doesn't end, and not too much is
     /// unsent.
     pub(crate) fn wants_turn(&self) -> bool
-        ensures { IsTrue result ↔ ((self.now.ends ≡ false) × ((self.now.readable ≡ true) ⊎ (self.now.stores ≡ true)) × (length (unsent_of self.now.session) < UNSENT_MAX)) }
+        ensures { IsTrue result ↔ ((self.now.ends ≡ false) × ((self.now.readable ≡ true) ⊎ (holds_values self.now.reach ≡ true))
+            × (length (unsent_of self.now.session) < UNSENT_MAX)) }
     {
-        !self.ends && (self.readable || self.stores) && self.session.unsent().len() < UNSENT_MAX
+        !self.ends
+            && (self.readable || holds_values(self.reach))
+            && self.session.unsent().len() < UNSENT_MAX
     }
 
     /// Whether it ends and all is sent.
@@ -232,17 +284,28 @@ impl<T: Drop> Connection<T> {
     }
 }
 
+impl Connection<TcpStream> {
+    /// Has the system tell of what comes to it and of what it can take, under this key. The error is the system's.
+    pub(crate) fn register(&mut self, registry: &Registry, key: usize) -> io::Result<()>
+        ensures { self.new.session ≡ self.old.session }
+    {
+        let both = Interest::READABLE | Interest::WRITABLE;
+        registry.register(&mut self.stream, Token(key), both)
+    }
+}
+
 impl<T: Write + Drop> Connection<T> {
     /// Writes once of what is unsent; the error says why nothing was taken.
     #[tactic(auto, using(crate::proofs::Sends::sent_none, crate::proofs::Sends::sent_some))]
     fn write(&mut self) -> Result<(), ErrorKind>
         ensures sent { IsSent (T.contents self.old.stream) (T.contents self.new.stream) (unsent_of self.old.session) (unsent_of self.new.session) }
-        ensures waits { self.new.stores ≡ self.old.stores }
+        ensures waits { self.new.reach ≡ self.old.reach }
     {
         match self.stream.write(self.session.unsent()) {
             Ok(0) => Err(ErrorKind::WriteZero),
             Ok(count) => {
                 self.session.sent(count);
+                self.stuck = None;
                 Ok(())
             }
             Err(error) => Err(error.kind()),
@@ -254,7 +317,7 @@ impl<T: Write + Drop> Connection<T> {
     #[tactic(auto, using(crate::proofs::Sends::sent_none, crate::proofs::Sends::sent_twice, crate::proofs::Sends::sent_nothing))]
     pub(crate) fn send(&mut self) -> bool
         ensures sent { IsSent (T.contents self.old.stream) (T.contents self.new.stream) (unsent_of self.old.session) (unsent_of self.new.session) }
-        ensures waits { self.new.stores ≡ self.old.stores }
+        ensures waits { self.new.reach ≡ self.old.reach }
     {
         for _ in 0..u64::MAX {
             if self.session.unsent().is_empty() {
@@ -311,7 +374,7 @@ impl<T: Read + Drop> Connection<T> {
     fn read(&mut self, buffer: &mut ReadBuffer, now: u64) -> bool
         requires { buffer.old ≡ [] }
         ensures read { Consumes (T.remaining self.old.stream) (T.remaining self.new.stream) buffer.new }
-        ensures session { (self.new.session ≡ self.old.session) × (self.new.stores ≡ self.old.stores) }
+        ensures session { (self.new.session ≡ self.old.session) × (self.new.reach ≡ self.old.reach) }
     {
         match buffer.fill(&mut self.stream) {
             Ok(0) => self.ends = true,
@@ -329,7 +392,7 @@ impl<T: Read + Drop> Connection<T> {
     }
 
     /// Hands the session these bytes, at a reading of the clock. Where a value waits, as its answer may be stored, that
-    /// is answered, and no other such one.
+    /// is answered, and no other such one; and none at all once `UNSENT_MAX` bytes are unsent.
     fn hand_over<J: Which, S: ConfStore, R: Wait + Clock>(
         &mut self,
         rt: &R,
@@ -339,12 +402,12 @@ impl<T: Read + Drop> Connection<T> {
         now: u64,
         bytes: &[u8],
     )
-        ensures handed { IsHanded member.now.cell.start now self.old.session seat.old.seat.view self.old.stores bytes.now self.new.session seat.new.seat.view self.new.stores }
+        ensures handed { IsHanded member.now.cell.start now self.old.session seat.old.seat.view self.old.reach bytes.now self.new.session seat.new.seat.view self.new.reach }
         ensures stream { self.new.stream ≡ self.old.stream }
     {
-        let most = if self.stores { 1 } else { 0 };
+        let most = most_of(self.reach);
         let progress = member.receive(rt, seat, &mut self.session, now, bytes, most);
-        self.stores = is_put_off(&progress);
+        self.reach = reach_after(&progress);
         if let Err(fault) = progress {
             if let ServeFault::Halted = fault {
                 state.note(RunFault::Halted);
@@ -353,7 +416,7 @@ impl<T: Read + Drop> Connection<T> {
         }
     }
 
-    /// Reads, unless a value waits, and hands over what was read: whether the connection is whole.
+    /// Reads, unless values wait, and hands over what was read: whether the connection is whole.
     fn step<J: Which, S: ConfStore, R: Wait + Clock>(
         &mut self,
         rt: &R,
@@ -363,10 +426,11 @@ impl<T: Read + Drop> Connection<T> {
         now: u64,
     ) -> bool {
         let mut buffer = ReadBuffer::new();
-        if !self.stores && !self.read(&mut buffer, now) {
+        let waits = holds_values(self.reach);
+        if !waits && !self.read(&mut buffer, now) {
             return false;
         }
-        if self.stores || !buffer.is_empty() {
+        if waits || !buffer.is_empty() {
             self.hand_over(rt, state, member, seat, now, buffer.all());
         }
         true
@@ -387,7 +451,7 @@ impl<T: Read + Drop> Connection<T> {
             if !self.step(rt, state, member, seat, began) {
                 return false;
             }
-            if !self.wants_turn() || self.stores || state.clock.now(rt) != began {
+            if !self.wants_turn() || holds_values(self.reach) || state.clock.now(rt) != began {
                 break;
             }
         }

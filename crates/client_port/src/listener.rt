@@ -4,9 +4,10 @@ use crate::admission::{Admitted, refuse_foreign, refuse_further};
 use crate::clients::Clients;
 use crate::crowding::Crowding;
 use crate::handoff::Handoff;
+use crate::incoming::Incoming;
 use crate::seats::{Newcomer, Seats, place_of};
 use log::{Log, warn};
-use mio::net::{TcpListener, TcpStream};
+use mio::net::TcpListener;
 use mio::{Interest, Registry, Token};
 use sentinel_runtime::RunState;
 use std::alloc::Global;
@@ -176,7 +177,7 @@ impl Listener {
         &self,
         rt: &R,
         clients: &mut Clients,
-        stream: TcpStream,
+        stream: Incoming,
         address: SocketAddr,
     ) {
         let ip = address.ip();
@@ -210,7 +211,7 @@ impl Listener {
     /// Accepts what waits at a socket.
     fn accept_at<R: Wait>(&self, rt: &R, clients: &mut Clients, socket: &TcpListener) -> Stopped {
         for _ in 0..ACCEPTS_MAX {
-            match socket.accept() {
+            match Incoming::accept(socket) {
                 Ok((stream, address)) => self.take_in(rt, clients, stream, address),
                 Err(error) => match error.kind() {
                     ErrorKind::WouldBlock => return Stopped::NoneWait,
@@ -230,7 +231,7 @@ impl Listener {
         };
         let count = self.seats.common();
         if self.crowding.is_due(count, limit, now) {
-            warn!(log; target: "group_ports::listener", "{count} of {limit} connections that clients may have (maxclients) are open: for a further one that goes which has been silent for longest");
+            warn!(log; target: "group_ports::listener", "{count} of {limit} connections that clients may have (maxclients) are open: for a further one that goes which owes the password, or has been silent for longest");
         }
     }
 

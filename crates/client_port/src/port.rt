@@ -159,44 +159,28 @@ impl Port {
                 return Err(error);
             }
             self.clients.look_at_times(rt);
-            self.answer_events(rt, state, member, seat, ending);
-            self.clients.close_killed();
-            self.clients.send_events(&self.events);
-            self.clients.serve_busy(rt, state, member, seat, ending);
-            self.clients.close_killed();
-            self.clients.tell_news(rt, member, self.thread, &mut told);
-            self.look_at_silent(rt, state);
+            self.note_events(rt, state, member);
+            self.clients.serve(rt, state, member, seat, ending);
+            self.clients
+                .tell_news(rt, state, member, self.thread, &mut told);
+            self.entrance.look_at_silent(&mut self.clients);
         }
         unreachable!()
     }
 
-    /// Looks at the connections that are silent. The clock is read for it only if nothing came.
-    fn look_at_silent<R: Clock>(&mut self, rt: &R, state: &RunState) {
-        if self.events.is_empty() {
-            self.clients.note_time(state.clock.now(rt));
-        }
-        self.entrance.look_at_silent(&mut self.clients);
-    }
-
-    /// Has the connections of which the system told read and answer, and takes in new ones. It stops where the group
-    /// ends.
-    fn answer_events<J: Which, S: ConfStore, R: Wait + Clock + Log>(
+    /// Notes of which connections the system told, and takes in new ones.
+    fn note_events<J: Which, S: ConfStore, R: Wait + Clock + Log>(
         &mut self,
         rt: &R,
         state: &RunState,
         member: &RunningSentinel<J, S>,
-        seat: &mut ThreadSeat<J>,
-        ending: &AtomicU64,
     ) {
         for event in &self.events {
-            if ending.load(Ordering::SeqCst) != 0 {
-                return;
-            }
             if event.token() == LISTENER {
                 let log = member.noting(rt);
                 self.entrance.admit_new(rt, &log, state, &mut self.clients);
             } else {
-                self.clients.answer_event(rt, state, member, seat, event);
+                self.clients.note_event(event);
             }
         }
     }

@@ -1,5 +1,8 @@
 //! What a port's thread knows of its clients, and what the port counts.
 
+ghost use Rattle.std.specs.Prelude.{◌≡◌};
+ghost use Rattle.courteous_sessions.specs.Clients.{unsent_of};
+
 use crate::connection::Connection;
 use crate::process_times::{ProcessTimes, ReadsTimes};
 use crate::seats::Seats;
@@ -8,7 +11,6 @@ use client_commands::{ClientEntry, Figures, PortFacts, Protocol};
 use sentinel_conf::ConfStore;
 use sentinel_runtime::{RunningSentinel, Which};
 use std::alloc::{AllocError, Global};
-use std::io::{Read, Write};
 use std::mem;
 use std::net::SocketAddr;
 
@@ -131,8 +133,12 @@ impl Roll {
         };
     }
 
-    /// Tells a connection of it, or takes back what it was told.
-    pub(crate) fn swap<T: Read + Write + Drop>(&mut self, connection: &mut Connection<T>) {
+    /// Tells a connection of it, or takes back what it was told. Nothing else of the connection changes.
+    #[tactic(auto, using(crate::proofs::Sends::unsent_known))]
+    pub(crate) fn swap<T: Drop>(&mut self, connection: &mut Connection<T>)
+        ensures stream { connection.new.stream ≡ connection.old.stream }
+        ensures unsent { unsent_of connection.new.session ≡ unsent_of connection.old.session }
+    {
         if !self.is_kept {
             return;
         }
@@ -142,7 +148,7 @@ impl Roll {
     }
 
     /// Notes what a connection with this key did in its turn.
-    pub(crate) fn note<T: Read + Write + Drop>(&mut self, key: usize, connection: &Connection<T>) {
+    pub(crate) fn note<T: Drop>(&mut self, key: usize, connection: &Connection<T>) {
         let Some(entry) = self.facts.clients.get_mut(key) else {
             return;
         };

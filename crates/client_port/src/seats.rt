@@ -4,7 +4,7 @@ ghost use Rattle.std.specs.Prelude.{◌≡◌};
 ghost use Rattle.client_port.specs.Admitting.{has_own_seat, place_of};
 
 use crate::admission::{Admission, Admitted, arrival_of};
-use mio::net::TcpStream;
+use crate::incoming::Incoming;
 use std::alloc::Global;
 use std::io;
 use std::net::{IpAddr, SocketAddr};
@@ -46,7 +46,7 @@ pub(crate) fn place_of(own: Option<usize>) -> Place
 /// that `clears` takes a seat only if another one goes.
 #[derive(Drop)]
 pub(crate) struct Newcomer {
-    pub(crate) stream: TcpStream,
+    pub(crate) stream: Incoming,
     pub(crate) address: SocketAddr,
     pub(crate) place: Place,
     pub(crate) is_peer: bool,
@@ -77,7 +77,7 @@ pub(crate) struct Seats {
 }
 
 /// The number of an IPv4 address; None of any other.
-fn number_of(ip: IpAddr) -> Option<u32> {
+pub(crate) fn number_of(ip: IpAddr) -> Option<u32> {
     match ip {
         IpAddr::V4(ip) => Some(u32::from(ip)),
         IpAddr::V6(_) => None,

@@ -2,10 +2,7 @@
 
 ghost use Rattle.std.specs.Prelude.{◌≡◌, ◌↔◌, ◌≤◌, true};
 ghost use Rattle.client_port.specs.declared.standing.Look.TheVariants.{Goes};
-ghost use Rattle.client_port.specs.Admitting.{may_go, owes_long, is_idle};
-
-/// How long a client may owe the port's password, in milliseconds, before it goes for a further one.
-pub(crate) const OWES_MS: u64 = 10_000;
+ghost use Rattle.client_port.specs.Admitting.{may_go, goes_first, is_idle};
 
 /// What becomes of the first connection of those that may have to go, in an order by readings of the clock.
 #[derive(Clone, Copy)]
@@ -44,11 +41,11 @@ impl Standing {
         !self.has_own_seat && !self.listens && !self.works
     }
 
-    /// Whether it goes before any that is silent: it owes the password for `OWES_MS` or more.
-    pub(crate) fn owes_long(self, now: u64) -> bool
-        ensures { result ≡ owes_long self now }
+    /// Whether it goes before anybody who was let in: it owes the password.
+    pub(crate) fn goes_first(self) -> bool
+        ensures { result ≡ goes_first self }
     {
-        !self.has_own_seat && self.owes && now.saturating_sub(self.came) >= OWES_MS
+        !self.has_own_seat && self.owes
     }
 
     /// Whether it is closed, since no byte came of it for so many milliseconds and it listens to nothing. With 0 none
@@ -60,19 +57,16 @@ impl Standing {
     }
 
     /// What becomes of it where it is the first of those that owe the password, which counts since this reading.
-    pub(crate) fn among_strangers(self, since: u64, now: u64) -> Look
-        ensures goes { (result ≡ Goes) ↔ (owes_long self now ≡ true) }
+    pub(crate) fn among_strangers(self, since: u64) -> Look
+        ensures goes { (result ≡ Goes) ↔ ((goes_first self ≡ true) × (self.came ≤ since)) }
     {
-        if self.owes_long(now) {
-            return Look::Goes;
-        }
-        if !self.owes || self.has_own_seat {
+        if !self.goes_first() {
             return Look::Leaves;
         }
         if since < self.came {
             return Look::Later(self.came);
         }
-        Look::Stays
+        Look::Goes
     }
 
     /// What becomes of it where it is the first of those that are silent, which counts since this reading, and

@@ -1,4 +1,4 @@
-//! Which connections of a thread have something to do, though the system doesn't tell of them, and which listen.
+//! Which connections of a thread have something to do, and in which order.
 
 ghost use Rattle.std.specs.Prelude.{◌≡◌, ◌<◌, true, false};
 
@@ -10,23 +10,26 @@ use std::alloc::{AllocError, Global};
 pub(crate) enum Line {
     /// None of what it asked is stored before it is answered, as far as it was read.
     Plain,
+    /// The same, and it comes from an address of another Sentinel.
+    Peer,
     /// What it asks next may be, and it comes from an address of another Sentinel.
     PeerVoter,
     /// The same, and it comes from elsewhere.
     OtherVoter,
 }
 
-/// The lines of those that have something to do, those that listen, those that had a turn or were told something
-/// since they gave back their room last, and those that might not go when they were looked at last. Of the voters'
-/// turns every second one is that of a peer, where one waits; `peer_was_last` is whether the last one was.
+/// The lines of those that have something to do, those that may have something to send, those that listen, and those
+/// that had a turn or were told something since they gave back their room last. Of the voters' turns every second one
+/// is that of a peer, where one waits; `peer_was_last` is whether the last one was.
 #[derive(Drop)]
 pub(crate) struct Waiting {
-    plain: KeyQueue,
-    peers: KeyQueue,
-    voters: KeyQueue,
+    pub(crate) plain: KeyQueue,
+    pub(crate) peers: KeyQueue,
+    peer_voters: KeyQueue,
+    other_voters: KeyQueue,
+    pub(crate) sending: KeyQueue,
     pub(crate) listeners: KeyQueue,
     pub(crate) active: KeyQueue,
-    pub(crate) aside: KeyQueue,
     peer_was_last: bool,
 }
 
@@ -45,10 +48,11 @@ impl Waiting {
         Waiting {
             plain: KeyQueue::new(alloc),
             peers: KeyQueue::new(alloc),
-            voters: KeyQueue::new(alloc),
+            peer_voters: KeyQueue::new(alloc),
+            other_voters: KeyQueue::new(alloc),
+            sending: KeyQueue::new(alloc),
             listeners: KeyQueue::new(alloc),
             active: KeyQueue::new(alloc),
-            aside: KeyQueue::new(alloc),
             peer_was_last: false,
         }
     }
@@ -57,45 +61,45 @@ impl Waiting {
     pub(crate) fn make_room(&mut self, key: usize) -> Result<(), AllocError> {
         self.plain.make_room(key)?;
         self.peers.make_room(key)?;
-        self.voters.make_room(key)?;
+        self.peer_voters.make_room(key)?;
+        self.other_voters.make_room(key)?;
+        self.sending.make_room(key)?;
         self.listeners.make_room(key)?;
-        self.active.make_room(key)?;
-        self.aside.make_room(key)
+        self.active.make_room(key)
     }
 
     /// A connection waits in this line, where it doesn't yet.
     pub(crate) fn join(&mut self, line: Line, key: usize) {
         match line {
             Line::Plain => self.plain.join(key),
-            Line::PeerVoter => self.peers.join(key),
-            Line::OtherVoter => self.voters.join(key),
+            Line::Peer => self.peers.join(key),
+            Line::PeerVoter => self.peer_voters.join(key),
+            Line::OtherVoter => self.other_voters.join(key),
         }
-    }
-
-    /// How many wait for nothing that may be stored.
-    pub(crate) fn plain_count(&self) -> usize {
-        self.plain.len()
-    }
-
-    /// The first of these.
-    pub(crate) fn next_plain(&mut self) -> Option<usize> {
-        self.plain.next()
     }
 
     /// How many wait for what may be stored.
     pub(crate) fn voter_count(&self) -> usize {
-        self.peers.len().saturating_add(self.voters.len())
+        self.peer_voters
+            .len()
+            .saturating_add(self.other_voters.len())
+    }
+
+    /// Whether one has something to do.
+    pub(crate) fn is_busy(&self) -> bool {
+        self.plain.len() > 0 || self.peers.len() > 0 || self.voter_count() > 0
     }
 
     /// The one of these whose turn it is: a peer's after that of another one, and another one's after a peer's, where
     /// there are both.
     pub(crate) fn next_voter(&mut self) -> Option<usize> {
-        let is_peers = is_peers_turn(self.peer_was_last, self.peers.len(), self.voters.len());
+        let (peers, others) = (self.peer_voters.len(), self.other_voters.len());
+        let is_peers = is_peers_turn(self.peer_was_last, peers, others);
         self.peer_was_last = is_peers;
         if is_peers {
-            self.peers.next()
+            self.peer_voters.next()
         } else {
-            self.voters.next()
+            self.other_voters.next()
         }
     }
 }

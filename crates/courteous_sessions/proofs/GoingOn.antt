@@ -1,5 +1,5 @@
 -- One value more within a limit, and the ends of a piece.
-use Rattle.std.proofs.Common.{◌≡◌, ◌⊎◌, ◌≤◌, ◌<◌, ◌+◌, ℕ, false, List, [], ◌∷◌, ◌++◌, Option, Some, None, Result, Ok, Err, refl, sym, ap, ◌∙◌, subst, inl, inr, append_assoc, append-nil, arith}
+use Rattle.std.proofs.Common.{◌≡◌, ◌⊎◌, ◌≤◌, ◌<◌, ◌+◌, ℕ, false, List, [], ◌∷◌, ◌++◌, Option, Some, None, Result, Ok, Err, refl, sym, ap, ◌∙◌, subst, inl, inr, append_assoc, append-nil, arith, length, OnOk}
 use Rattle.ballot_law.specs.Limits as limits
 use Rattle.pubsub.specs.Listening.{Listening, is_listening}
 use Rattle.client_commands.specs.Attendants.{Attendance, TakesCommon}
@@ -9,7 +9,7 @@ use Rattle.client_commands.proofs.LineStreams.{reads_next, spelled_or_line}
 use Rattle.sentinel_core.specs.declared.serving.fault.ServeFault.{ServeFault}
 use Rattle.sentinel_core.specs.declared.serving.fault.ServeFault.TheVariants.{Frame as FaultyFrame, Halted as ServeHalted, NoMemory as OutOfMemory}
 use Rattle.port_sessions.specs.declared.limit.Reach.{Reach}
-use Rattle.port_sessions.specs.declared.limit.Reach.TheVariants.{Done, Waits}
+use Rattle.port_sessions.specs.declared.limit.Reach.TheVariants.{Done, Waits, Full}
 use Rattle.port_sessions.specs.Stores.{may_store, one_if}
 use Rattle.port_sessions.specs.declared.hearing.NotesHeard.{NotesHeard}
 use Rattle.port_sessions.specs.Talks.{party}
@@ -29,7 +29,8 @@ use Rattle.courteous_sessions.specs.Stores.{value_may_store, stores_among}
 use Rattle.courteous_sessions.specs.Visits.{Guest, guest, IsUnanswered, Tells}
 use Rattle.port_sessions.specs.OnTheWay.{Refuses}
 use Rattle.courteous_sessions.specs.OnTheWay.{IsReady, RespondsIn, guest_of}
-use Rattle.courteous_sessions.specs.GoingOn.{IsWithin, IsCommonAhead, IsValueAhead, Stops, StepsWithin, DrainsWithin, BreaksWithin, GoesOn}
+use Rattle.courteous_sessions.specs.declared.going_on.TheConstants.{UNSENT_MAX}
+use Rattle.courteous_sessions.specs.GoingOn.{IsWithin, IsCommonAhead, IsValueAhead, Stops, StepsWithin, DrainsWithin, BreaksWithin, GoesOn, AddsAnswer, AddsNext, StopsInTime, IsFullOf}
 use Rattle.courteous_sessions.proofs.Serving.{was_read, serves-push, shows_fault}
 use Rattle.courteous_sessions.proofs.Stepping.{common_tells}
 
@@ -87,6 +88,70 @@ guest_same before mid l same_l hearing same v a b c =
     ap (λ (x : ClientInfo). guest (party v hearing.listens) l hearing.told x) (sym a)
     ∙ ap (λ (x : Listening). guest (party v hearing.listens) x hearing.told mid.asker) (sym b)
     ∙ ap (λ (t : NotesHeard). guest (party v t.listens) same_l t.told mid.asker) (sym c)
+
+-- ---- what joins what is unsent
+
+-- there was room for the next answer
+pub adds_in_time : (start : World) (now : ℕ) (next : Option Reach) (unsent mid left : List ℕ) → next ≡ None → length mid < UNSENT_MAX → AddsNext start now next mid left
+    → StopsInTime start now unsent left
+adds_in_time start now next unsent mid left is room adds = inr (mid, room, subst (λ (x : Option Reach). AddsNext start now x mid left) is adds)
+
+-- none more was given
+added_none : (start : World) (now : ℕ) (progress : Reach) (unsent left : List ℕ) → AddsNext start now (Some progress) unsent left → left ≡ unsent
+added_none start now Done unsent left same = same
+added_none start now Waits unsent left same = same
+added_none start now Full unsent left never = absurd never
+
+pub stops_in_time : (start : World) (now : ℕ) (next : Option Reach) (progress : Reach) (unsent mid left : List ℕ) → next ≡ Some progress → AddsNext start now next mid left
+    → StopsInTime start now unsent mid → StopsInTime start now unsent left
+stops_in_time start now next progress unsent mid left is adds h =
+    subst (λ (t : List ℕ). StopsInTime start now unsent t) (sym (added_none start now progress mid left (subst (λ (x : Option Reach). AddsNext start now x mid left) is adds))) h
+
+-- it wasn't since so much is unsent
+full_at : (start : World) (now : ℕ) (progress : Reach) (unsent left : List ℕ) → AddsNext start now (Some progress) unsent left → IsFullOf {F = ServeFault} (Ok progress) left
+full_at start now Done unsent left same = tt
+full_at start now Waits unsent left same = tt
+full_at start now Full unsent left never = absurd never
+
+pub full_next : (start : World) (now : ℕ) (next : Option Reach) (progress : Reach) (unsent left : List ℕ) → next ≡ Some progress → AddsNext start now next unsent left
+    → IsFullOf {F = ServeFault} (Ok progress) left
+full_next start now next progress unsent left is adds =
+    full_at start now progress unsent left (subst (λ (x : Option Reach). AddsNext start now x unsent left) is adds)
+
+-- a value was answered
+pub value_adds : {Ready : Type 0} (start : World) (now : ℕ) (g h : Guest) (value : Frame) (before unsent put : List ℕ) → unsent ≡ before
+    → (more : List ℕ) × (put ≡ unsent ++ more) × Ready × Tells start now g value more h → AddsAnswer start now before put
+value_adds start now g h value before unsent put same got =
+    record { g = g; value = value; answer = got.0; h = h; left_is = got.1 ∙ ap (λ (t : List ℕ). t ++ got.0) same; tells = got.3 }
+
+-- one part after the other
+pub in_time_twice : (start : World) (now : ℕ) (unsent mid left : List ℕ) → StopsInTime start now unsent mid → StopsInTime start now mid left → StopsInTime start now unsent left
+in_time_twice start now unsent mid left h (inl same) = subst (λ (t : List ℕ). StopsInTime start now unsent t) (sym same) h
+in_time_twice start now unsent mid left h (inr last) = inr last
+
+pub rest_in_time : (start : World) (now : ℕ) (result : Result Reach ServeFault) (unsent mid left : List ℕ) → StopsInTime start now unsent mid
+    → OnOk result (StopsInTime start now mid left) → OnOk result (StopsInTime start now unsent left)
+rest_in_time start now (Ok reach) unsent mid left h k = in_time_twice start now unsent mid left h k
+rest_in_time start now (Err fault) unsent mid left h k = tt
+
+-- a command that comes nearly always was answered
+pub common_adds : (start : World) (now : ℕ) (command : Command) (before after : Attendance) (l : Listening) (unsent put : List ℕ) (hearing later : NotesHeard) (v w : View)
+    (more fewer : ℕ) (mark : Held) → IsReady before l hearing → IsCommonAhead before.asker l more before.held command fewer mark after.held → after.asker ≡ before.asker
+    → later.told ≡ hearing.told
+    → (text : List ℕ) × (put ≡ unsent ++ text)
+    × RespondsIn start now before.asker.protocol (party v hearing.listens) (heard_as before.asker.current (Ok command)) text (party w later.listens)
+    → AddsAnswer start now unsent put
+common_adds start now command before after l unsent put hearing later v w more fewer mark ready ahead asker told got =
+    record {
+      g = guest_of before l hearing v;
+      value = ahead.taken.value;
+      answer = got.0;
+      h = guest_of after l later w;
+      left_is = got.1;
+      tells =
+          common_tells start now before.asker.protocol command before after l hearing later v w ahead.taken.value got.0 ready ahead.common ahead.known ahead.quiet refl
+          ahead.taken.asked asker told got.2;
+    }
 
 -- ---- how many values may store
 
@@ -239,6 +304,16 @@ module _ (start : World) (now : ℕ) (most : ℕ) (stream : List ℕ) (g : Guest
       )
   finished more (ended fault) after bytes h a given = absurd (let no = a.so_far.held_is in cc)
 
+  -- so much is unsent that no more are
+  pub full_within : (more : ℕ) (held : Held) (bytes : List ℕ) (h : Guest) → IsWithin start now most stream g more held bytes h
+      → Stops start now most stream g Full held bytes h
+  full_within more held bytes h a =
+      let so_far = a.so_far in (
+        so_far.rest,
+        so_far.held_is,
+        record { values = so_far.values; parts = so_far.parts; answers = so_far.answers; few = few more held bytes h a },
+      )
+
   -- a fault shows after the values that were answered
   pub refused_within : (more : ℕ) (held after : Held) (bytes : List ℕ) (m : Guest) (fault : FrameFault) (before unsent put : List ℕ) (why : ServeFault)
       → unsent ≡ before ++ bytes → IsWithin start now most stream g more held bytes m → held ≡ reading (bytes_in held) → Answers {V = Value} view held (Err fault) after
@@ -291,6 +366,8 @@ module _ (start : World) (now : ℕ) (most : ℕ) (stream : List ℕ) (g : Guest
       subst (λ (rest : List ℕ). GoesOn start now most stream g (Ok Done) rest bytes h) (sym (ap bytes_in it.1)) it.2
   was_taken (Ok Waits) held bytes h it =
       subst (λ (rest : List ℕ). GoesOn start now most stream g (Ok Waits) rest bytes h) (sym (ap bytes_in it.1)) it.2
+  was_taken (Ok Full) held bytes h it =
+      subst (λ (rest : List ℕ). GoesOn start now most stream g (Ok Full) rest bytes h) (sym (ap bytes_in it.1)) it.2
   was_taken (Err fault) held bytes h it = it
 
 -- the piece was added, and nothing was answered yet

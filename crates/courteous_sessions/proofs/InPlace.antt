@@ -1,5 +1,5 @@
 -- Commands that are answered where they stand in a piece.
-use Rattle.std.proofs.Common.{◌≡◌, ◌⊎◌, ◌<◌, ◌+◌, ◌∙◌, ℕ, false, true, List, [], ◌∷◌, ◌++◌, length, Bor, Option, Some, None, Result, Ok, Err, refl, sym, ap, subst, true≢false, arith}
+use Rattle.std.proofs.Common.{◌≡◌, ◌⊎◌, ◌<◌, ◌+◌, ◌∙◌, ℕ, false, true, List, [], ◌∷◌, ◌++◌, length, Bor, Option, Some, None, Result, Ok, Err, refl, sym, ap, subst, inr, true≢false, arith}
 use Rattle.std.specs.Prelude.{◌==◌, is_err}
 use Rattle.std.proofs.lemmas.Bool.Decides.{nat_tests}
 use Rattle.ballot_law.specs.declared.commands.Command.{Command}
@@ -23,10 +23,11 @@ use Rattle.sentinel_core.specs.declared.serving.fault.ServeFault.TheVariants.{Fr
 use Rattle.sentinel_cell.specs.declared.view.View.{View}
 use Rattle.sentinel_cell.specs.Histories.{World}
 use Rattle.courteous_sessions.specs.Epochs.{heard_as}
-use Rattle.courteous_sessions.specs.GoingOn.{IsWithin, IsFinished, BreaksWithin, StepsInPlace}
+use Rattle.courteous_sessions.specs.declared.going_on.TheConstants.{UNSENT_MAX}
+use Rattle.courteous_sessions.specs.GoingOn.{IsWithin, IsFinished, BreaksWithin, StepsInPlace, AddsAnswer, AddsInPlace, StopsInTime, IsCommonAhead}
 use Rattle.courteous_sessions.specs.OnTheWay.{IsReady, IsDirect, guest_of}
 use Rattle.courteous_sessions.specs.Visits.{Guest, guest, FailsAt, Breaks}
-use Rattle.courteous_sessions.proofs.GoingOn.{common_within, cut_within, first_within}
+use Rattle.courteous_sessions.proofs.GoingOn.{common_within, common_adds, cut_within, first_within}
 use Rattle.courteous_sessions.proofs.Stepping.{responds_in_two}
 use Rattle.courteous_sessions.proofs.Values.{by_own}
 
@@ -37,6 +38,48 @@ none_whole = as_frame [] refl ∙ nothing_waits
 pub no_rest : (rest : List ℕ) → (length rest == 0) ≡ true → rest ≡ []
 no_rest [] h = refl
 no_rest (x ∷ xs) h = absurd (let no : ⊥ = grind (arith, nat_tests, h) in no)
+
+-- a command that comes nearly always stands before what comes still
+stands_ahead : (command : Command) (before after : Attendance) (l : Listening) (most : ℕ) (rest more : List ℕ) → IsDirect before l
+    → TakesCommon (reading rest) (reading more) command → limits.IsWithin command → IsCommon command → may_store (Ok command) ≡ false → length more < length rest
+    → IsCommonAhead before.asker l most (reading rest) command most (reading more) (reading more)
+stands_ahead command before after l most rest more direct taken within common none short =
+    let stores : one_if (may_store (Ok command)) ≡ 0 = ap one_if none in
+    record {
+      taken = taken;
+      common = common;
+      within = within;
+      known = direct.known;
+      quiet = direct.quiet;
+      counts = omega (arith, stores);
+      marks = refl;
+      smaller = short;
+    }
+
+-- its answer joined what was unsent
+pub front_adds : (start : World) (now : ℕ) (command : Command) (before after : Attendance) (l : Listening) (unsent put : List ℕ) (hearing later : NotesHeard) (v w : View)
+    (rest more : List ℕ) → IsReady before l hearing → IsDirect before l → TakesCommon (reading rest) (reading more) command → limits.IsWithin command → IsCommon command
+    → may_store (Ok command) ≡ false → length more < length rest → after ≡ before → later.told ≡ hearing.told
+    → (text : List ℕ) × (put ≡ unsent ++ text) × Responds start now (party v hearing.listens) (heard_as before.asker.current (Ok command)) text (party w later.listens)
+    → AddsAnswer start now unsent put
+front_adds start now command before after l unsent put hearing later v w rest more ready direct taken within common none short is_same told got =
+    let at : Attendance = record before { held = reading rest } in
+    let left : Attendance = record after { held = reading more } in
+    common_adds start now command at left l unsent put hearing later v w 0 0 (reading more)
+    (record { reads = refl; listens = ready.listens; hears = ready.hears })
+    (stands_ahead command before after l 0 rest more direct taken within common none short)
+    (ap (λ (x : Attendance). x.asker) is_same) told
+    (responds_in_two start now before.asker.protocol (party v hearing.listens) (heard_as before.asker.current (Ok command)) (party w later.listens) unsent put direct.speaks got)
+
+-- there was room for it
+pub front_in_time : {X : Type 0} (start : World) (now : ℕ) (next : Option X) (more : X) (unsent mid left : List ℕ) → next ≡ Some more → length mid < UNSENT_MAX
+    → AddsInPlace start now next mid left → StopsInTime start now unsent left
+front_in_time {X} start now next more unsent mid left is room adds = inr (mid, room, subst (λ (x : Option X). AddsInPlace start now x mid left) is adds)
+
+pub front_ends_in_time : {X : Type 0} (start : World) (now : ℕ) (next : Option X) (unsent mid left : List ℕ) → next ≡ None → AddsInPlace start now next mid left
+    → StopsInTime start now unsent mid → StopsInTime start now unsent left
+front_ends_in_time {X} start now next unsent mid left is adds h =
+    subst (λ (t : List ℕ). StopsInTime start now unsent t) (sym (subst (λ (x : Option X). AddsInPlace start now x mid left) is adds)) h
 
 module _ (start : World) (now : ℕ) (most : ℕ) (stream : List ℕ) (g : Guest) where
   -- the first command of what comes still was answered
@@ -50,19 +93,9 @@ module _ (start : World) (now : ℕ) (most : ℕ) (stream : List ℕ) (g : Guest
   front_answered command first bytes before after l later_l unsent put hearing later v w rest more is a ready direct taken within common none short is_same same told got =
       let at : Attendance = record before { held = reading rest } in
       let left : Attendance = record after { held = reading more } in
-      let stores : one_if (may_store (Ok command)) ≡ 0 = ap one_if none in
       common_within start now most stream g command first bytes at left l later_l unsent put hearing later v w most most (reading more) is a
       (record { reads = refl; listens = ready.listens; hears = ready.hears })
-      (record {
-        taken = taken;
-        common = common;
-        within = within;
-        known = direct.known;
-        quiet = direct.quiet;
-        counts = omega (arith, stores);
-        marks = refl;
-        smaller = short;
-      })
+      (stands_ahead command before after l most rest more direct taken within common none short)
       (ap (λ (x : Attendance). x.asker) is_same) same told
       (responds_in_two start now before.asker.protocol (party v hearing.listens) (heard_as before.asker.current (Ok command)) (party w later.listens) unsent put direct.speaks got)
 
@@ -102,6 +135,11 @@ module _ (start : World) (now : ℕ) (most : ℕ) (stream : List ℕ) (g : Guest
   front_stopped next held rest bytes h is none it =
       subst (λ (t : List ℕ). IsWithin start now most stream g most (reading (t ++ rest)) bytes h) (sym none)
       (subst (λ (x : Option (Bor (List ℕ))). StepsInPlace start now most stream g (Ok x) rest bytes h) is it)
+
+  -- none more was answered, since so much is unsent
+  pub full_stopped : (held rest bytes : List ℕ) (h : Guest) → held ≡ [] → IsWithin start now most stream g most (reading rest) bytes h
+      → IsWithin start now most stream g most (reading (held ++ rest)) bytes h
+  full_stopped held rest bytes h none it = subst (λ (t : List ℕ). IsWithin start now most stream g most (reading (t ++ rest)) bytes h) (sym none) it
 
   -- a fault, however many values may store
   pub breaks_anyway : (fault : ServeFault) (bytes : List ℕ) (w : View) → BreaksWithin start now most stream g fault bytes w → Breaks start now stream g fault bytes w

@@ -18,7 +18,7 @@ use Rattle.courteous_sessions.specs.Visits.{Guest, hears_switches, channel_turn}
 use Rattle.courteous_sessions.specs.declared.client_session.ClientSession.{ClientSession}
 use Rattle.courteous_sessions.specs.declared.client_session.ClientSession.TheVariants.{Plain, Courteous}
 use Rattle.port_sessions.specs.declared.limit.Reach.{Reach}
-use Rattle.port_sessions.specs.declared.limit.Reach.TheVariants.{Done, Waits}
+use Rattle.port_sessions.specs.declared.limit.Reach.TheVariants.{Done, Waits, Full}
 use Rattle.port_sessions.specs.GoingOn as plain
 use Rattle.port_sessions.specs.Talks as talks
 use Rattle.port_sessions.specs.Talks.{Party, party, asked}
@@ -125,6 +125,7 @@ module _ (Well : View → Type 0) (May : Event → Type 0) (start : World)
         → Well p.view → Well q.view
     went_plain most stream p q (Ok Done) held bytes it well = answered_plain p q it.answered.values bytes it.answered.answers well
     went_plain most stream p q (Ok Waits) held bytes it well = answered_plain p q it.values bytes it.answers well
+    went_plain most stream p q (Ok Full) held bytes it well = absurd it
     went_plain most stream p q (Err fault) held bytes it well = broken_plain most stream p (party q.view it.1) fault bytes it.2 well
 
     -- ---- a session with courtesies
@@ -191,6 +192,7 @@ module _ (Well : View → Type 0) (May : Event → Type 0) (start : World)
         → Well g.party.view → Well h.party.view
     went most stream g (Ok Done) held bytes h it well = served_all g it.answered.values bytes h it.answered.answers well
     went most stream g (Ok Waits) held bytes h it well = served_all g it.values bytes h it.answers well
+    went most stream g (Ok Full) held bytes h it well = served_all g it.values bytes h it.answers well
     went most stream g (Err fault) held bytes h it well = broken most stream g fault bytes h.party.view it well
 
     -- ---- either

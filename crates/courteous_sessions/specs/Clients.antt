@@ -21,7 +21,7 @@ use Rattle.sentinel_cell.specs.Histories.{World}
 use Rattle.courteous_sessions.specs.Events.{told_of, event_told, is_any}
 use Rattle.courteous_sessions.specs.Retelling.{IsTold}
 use Rattle.courteous_sessions.specs.declared.shapes.Shape.TheVariants.{Pushes}
-use Rattle.courteous_sessions.specs.GoingOn.{GoesOn}
+use Rattle.courteous_sessions.specs.GoingOn.{GoesOn, StopsInTime, IsFullOf}
 use Rattle.courteous_sessions.specs.Visits.{unsubscribed, Visit, Guest, guest, Receives}
 use Rattle.courteous_sessions.specs.declared.client_session.ClientSession.{ClientSession}
 use Rattle.courteous_sessions.specs.declared.client_session.ClientSession.TheVariants.{Plain, Courteous}
@@ -159,6 +159,8 @@ module _ (start : World) (now most : ℕ) (piece : List ℕ) (result : Result Re
   pub record TakesSomeCourteous (visit after : Visit) : Type 0 where
     pub goes_on : visit.ended ≡ None → (more : List ℕ) × (after.unsent ≡ visit.unsent ++ more)
         × GoesOn start now most (visit.held ++ piece) (guest_of_visit visit v) result after.held more (guest_of_visit after w)
+    pub in_time : visit.ended ≡ None → OnOk result (StopsInTime start now visit.unsent after.unsent)
+    pub full : visit.ended ≡ None → IsFullOf result after.unsent
     pub is_open : OnOk result (after.ended ≡ None)
     pub closed : IfErr result (λ fault. after.ended ≡ Some fault)
     pub emptied : OnErr result ((after.held ≡ []) × (after.listening ≡ unsubscribed) × (after.listens ≡ None))

@@ -143,7 +143,7 @@ impl ClientSession {
     }
 
     /// Takes the next piece, and answers only so many values that may store: as `Session::go_on` without courtesies,
-    /// and as `CourteousSession::go_on` with them.
+    /// and as `CourteousSession::go_on` with them, which stops once `UNSENT_MAX` bytes are unsent.
     pub fn go_on<S: ConfStore, R: Wait>(
         &mut self,
         rt: &R,

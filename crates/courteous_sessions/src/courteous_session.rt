@@ -4,7 +4,7 @@ ghost use Rattle.std.specs.Prelude.{◌≡◌, ◌≤◌, ◌<◌, ◌↔◌, �
 ghost use Rattle.pubsub.specs.Listening.{is_listening};
 ghost use Rattle.client_commands.specs.Courtesies.{is_stranger};
 ghost use Rattle.courteous_sessions.specs.Clients.{arrived, guest_of_visit, wanting, NotifiesVisit, TellsVisit, knowing, knowing_of};
-ghost use Rattle.courteous_sessions.specs.GoingOn.{GoesOn};
+ghost use Rattle.courteous_sessions.specs.GoingOn.{GoesOn, StopsInTime, IsFullOf};
 ghost use Rattle.courteous_sessions.specs.Visits.{unsubscribed, Receives};
 
 use crate::epochs::FarRequest;
@@ -179,9 +179,10 @@ impl CourteousSession {
     }
 
     /// Takes the next piece as `received` does, but answers only so many values that may store: FLUSHCONFIG and
-    /// requests for votes. `Done` where all whole values are answered. `Waits` where the next whole one may store,
-    /// after as many: it is held with what comes after it, and a further call goes on with it, also one with an empty
-    /// piece.
+    /// requests for votes; and none once `UNSENT_MAX` bytes are unsent, so what is unsent is longer than that by less
+    /// than one answer. `Done` where all whole values are answered. `Waits` where the next whole one may store, after
+    /// as many, and `Full` where so much is unsent: what comes next is held, and a further call goes on with it, also
+    /// one with an empty piece.
     ///
     /// The faults are those of `received`, after which the session is ended as there.
     pub fn go_on<S: ConfStore, R: Wait>(
@@ -200,6 +201,8 @@ impl CourteousSession {
         ensures goes_on { self.old.ended ≡ None → (more : List ℕ) × (self.new.unsent ≡ self.old.unsent ++ more)
             × GoesOn cell.now.start now most (self.old.held ++ piece.now)
             (guest_of_visit self.old seat.old.view) result self.new.held more (guest_of_visit self.new seat.new.view) }
+        ensures in_time { self.old.ended ≡ None → OnOk result (StopsInTime cell.now.start now self.old.unsent self.new.unsent) }
+        ensures full { self.old.ended ≡ None → IsFullOf result self.new.unsent }
         ensures open { OnOk result (self.new.ended ≡ None) }
         ensures closed { IfErr result (λ fault. self.new.ended ≡ Some fault) }
         ensures emptied { OnErr result ((self.new.held ≡ []) × (self.new.listening ≡ unsubscribed) × (self.new.listens ≡ None)) }

@@ -1,9 +1,9 @@
-//! The answering of so many values that may store, and no more.
+//! The answering of so many values that may store, and no more, until so much is unsent.
 
-ghost use Rattle.std.specs.Prelude.{◌≡◌, ◌<◌, ◌+◌, ◌++◌, ℕ, List, None, Ok, OnOk, IfOk, true, false};
+ghost use Rattle.std.specs.Prelude.{◌≡◌, ◌≤◌, ◌<◌, ◌+◌, ◌++◌, ℕ, List, None, Ok, OnOk, IfOk, true, false, length};
 ghost use Rattle.port_sessions.specs.Stores.{may_store, one_if};
 ghost use Rattle.resp2.specs.Framing.Stream.{reading, held_size, bytes_in};
-ghost use Rattle.courteous_sessions.specs.GoingOn.{IsWithin, TakesAhead, StepsWithin, DrainsWithin, GoesOn};
+ghost use Rattle.courteous_sessions.specs.GoingOn.{IsWithin, TakesAhead, StepsWithin, DrainsWithin, GoesOn, AddsNext, StopsInTime, IsFullOf};
 ghost use Rattle.courteous_sessions.specs.OnTheWay.{IsReady, IsDirect, guest_of};
 ghost use Rattle.courteous_sessions.specs.Visits.{Guest};
 
@@ -15,6 +15,10 @@ use sentinel_cell::{Seat, SharedSentinel};
 use sentinel_conf::ConfStore;
 use sentinel_core::ServeFault;
 use std::sync::Wait;
+
+/// How many bytes may be unsent of a client with courtesies before no further value of its is answered, until some of
+/// them went out: 1 MiB.
+pub const UNSENT_MAX: usize = 1_048_576;
 
 /// What stands next in a connection's stream.
 #[derive(Drop)]
@@ -37,6 +41,14 @@ pub(crate) fn asked_by(command: &Command) -> Result<Command, CommandFault>
 }
 
 impl Exchange {
+    /// Whether so much is unsent that what comes next waits.
+    pub(crate) fn is_full(&self) -> bool
+        ensures full { result ≡ true → UNSENT_MAX ≤ length self.now.responder.unsent.items }
+        ensures room { result ≡ false → length self.now.responder.unsent.items < UNSENT_MAX }
+    {
+        self.responder.unsent().len() >= UNSENT_MAX
+    }
+
     /// Whether a value that was taken is answered, which asks this; else it is held again, and the call ends.
     fn allows(&mut self, asked: &Result<Command, CommandFault>, limit: &mut Limit) -> bool
         ensures yes { result ≡ true → (limit.old.most ≡ one_if (may_store asked.now) + limit.new.most) × (self.new.attendant ≡ self.old.attendant) }
@@ -121,6 +133,7 @@ impl Exchange {
             (guest_of self.old.attendant self.old.subscriptions self.old.responder.hears seat.old.view) → (more : List ℕ) × (self.new.responder.unsent.items ≡ before ++ more)
             × StepsWithin cell.now.start now most stream g result limit.new.most self.new.attendant.held more
             (guest_of self.new.attendant self.new.subscriptions self.new.responder.hears seat.new.view) }
+        ensures one { IfOk result (λ next. AddsNext cell.now.start now next self.old.responder.unsent.items self.new.responder.unsent.items) }
     {
         match self.next_within(limit) {
             Ok(NextValue::Common(command)) => match self.tell_common(rt, cell, seat, now, command) {
@@ -137,7 +150,8 @@ impl Exchange {
         }
     }
 
-    /// Answers each value that is whole, but the first one that has to wait and those after it.
+    /// Answers each value that is whole, but the first one that has to wait and those after it; none any more once it
+    /// is full.
     fn go_on_whole<S: ConfStore, R: Wait>(
         &mut self,
         rt: &R,
@@ -156,8 +170,13 @@ impl Exchange {
             (guest_of self.old.attendant self.old.subscriptions self.old.responder.hears seat.old.view) → (more : List ℕ) × (self.new.responder.unsent.items ≡ before ++ more)
             × DrainsWithin cell.now.start now most stream g result self.new.attendant.held more
             (guest_of self.new.attendant self.new.subscriptions self.new.responder.hears seat.new.view) }
+        ensures in_time { OnOk result (StopsInTime cell.now.start now self.old.responder.unsent.items self.new.responder.unsent.items) }
+        ensures full { IsFullOf result self.new.responder.unsent.items }
     {
         loop {
+            if self.is_full() {
+                return Ok(Reach::Full);
+            }
             match self.go_on_next(rt, cell, seat, now, limit) {
                 Ok(None) => self.answered = self.answered.saturating_add(1),
                 Ok(Some(progress)) => return Ok(progress),
@@ -204,6 +223,8 @@ impl Exchange {
             → (more : List ℕ) × (self.new.responder.unsent.items ≡ before ++ more)
             × DrainsWithin cell.now.start now most stream g result self.new.attendant.held more
             (guest_of self.new.attendant self.new.subscriptions self.new.responder.hears seat.new.view) }
+        ensures in_time { OnOk result (StopsInTime cell.now.start now self.old.responder.unsent.items self.new.responder.unsent.items) }
+        ensures full { IsFullOf result self.new.responder.unsent.items }
     {
         let Ok(mut limit) = self.feed_within(rest, most) else {
             return Err(ServeFault::NoMemory);
@@ -237,6 +258,8 @@ impl Exchange {
             × GoesOn cell.now.start now most (bytes_in self.old.attendant.held ++ piece.now)
             (guest_of self.old.attendant self.old.subscriptions self.old.responder.hears seat.old.view) result (bytes_in self.new.attendant.held) more
             (guest_of self.new.attendant self.new.subscriptions self.new.responder.hears seat.new.view) }
+        ensures in_time { OnOk result (StopsInTime cell.now.start now self.old.responder.unsent.items self.new.responder.unsent.items) }
+        ensures full { IsFullOf result self.new.responder.unsent.items }
     {
         match self.answer_in_place(rt, cell, seat, now, piece) {
             Ok(rest) => {

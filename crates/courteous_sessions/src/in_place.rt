@@ -6,7 +6,7 @@ ghost use Rattle.client_commands.specs.Attendants.{TakesCommon};
 ghost use Rattle.port_sessions.specs.Stores.{may_store};
 ghost use Rattle.resp2.specs.Asked.{IsCommon};
 ghost use Rattle.resp2.specs.Framing.Stream.{reading, bytes_in};
-ghost use Rattle.courteous_sessions.specs.GoingOn.{IsWithin, StepsInPlace, DrainsInPlace};
+ghost use Rattle.courteous_sessions.specs.GoingOn.{IsWithin, StepsInPlace, DrainsInPlace, AddsInPlace, StopsInTime};
 ghost use Rattle.courteous_sessions.specs.OnTheWay.{IsReady, IsDirect, guest_of};
 ghost use Rattle.courteous_sessions.specs.Visits.{Guest};
 
@@ -77,6 +77,7 @@ impl Exchange {
             → (more : List ℕ) × (self.new.responder.unsent.items ≡ before ++ more)
             × StepsInPlace cell.now.start now most stream g result rest.now more
             (guest_of self.new.attendant self.new.subscriptions self.new.responder.hears seat.new.view) }
+        ensures one { IfOk result (λ next. AddsInPlace cell.now.start now next self.old.responder.unsent.items self.new.responder.unsent.items) }
     {
         let Some((command, more)) = next_in_place(rest) else {
             return Ok(None);
@@ -88,7 +89,7 @@ impl Exchange {
     }
 
     /// Answers the commands with which a piece begins where they stand, up to the first value that doesn't come nearly
-    /// always or may store: what comes from that on.
+    /// always or may store, or until it is full: what comes from that on.
     pub(crate) fn answer_in_place<'a, S: ConfStore, R: Wait>(
         &mut self,
         rt: &R,
@@ -108,12 +109,16 @@ impl Exchange {
             × DrainsInPlace cell.now.start now most (bytes_in self.old.attendant.held ++ piece.now)
             (guest_of self.old.attendant self.old.subscriptions self.old.responder.hears seat.old.view) result (bytes_in self.old.attendant.held) more
             (guest_of self.new.attendant self.new.subscriptions self.new.responder.hears seat.new.view) }
+        ensures in_time { OnOk result (StopsInTime cell.now.start now self.old.responder.unsent.items self.new.responder.unsent.items) }
     {
         if !self.direct {
             return Ok(piece);
         }
         let mut rest = piece;
         loop {
+            if self.is_full() {
+                return Ok(rest);
+            }
             match self.answer_front(rt, cell, seat, now, rest) {
                 Ok(Some(more)) => {
                     self.answered = self.answered.saturating_add(1);

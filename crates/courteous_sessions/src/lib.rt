@@ -25,6 +25,7 @@ mod speaking;
 pub use client_session::ClientSession;
 pub use courteous_session::CourteousSession;
 pub use epochs::{EPOCHS_AHEAD, FarRequest, is_far};
+pub use going_on::UNSENT_MAX;
 pub use laws::{
     law_channels_tell_nothing_else, law_courtesies_take_no_turn,
     law_listeners_are_answered_by_channels, law_own_commands_are_answered_as_before,

@@ -18,7 +18,7 @@ use Rattle.resp2.specs.declared.command.CommandFault.{CommandFault}
 use Rattle.ballot_law.specs.declared.commands.Command.{Command}
 use Rattle.sentinel_cell.specs.Histories.{World}
 use Rattle.port_sessions.specs.declared.limit.Reach.{Reach}
-use Rattle.port_sessions.specs.declared.limit.Reach.TheVariants.{Done, Waits}
+use Rattle.port_sessions.specs.declared.limit.Reach.TheVariants.{Done, Waits, Full}
 use Rattle.port_sessions.specs.Stores.{may_store, one_if, stores_among, IsStoreNext}
 use Rattle.port_sessions.specs.Talks.{Party, Responds, Fails, IsHaltedAt}
 use Rattle.port_sessions.specs.OnTheWay.{Refuses}
@@ -213,6 +213,7 @@ module _ (start : World) (now : ℕ) (most : ℕ) (stream : List ℕ) (p : Party
       → OnOk answer (held ≡ reading (bytes_in held))
   still_open (Ok Done) held bytes q h = h.1 ∙ ap reading (sym (ap bytes_in h.1))
   still_open (Ok Waits) held bytes q h = h.1 ∙ ap reading (sym (ap bytes_in h.1))
+  still_open (Ok Full) held bytes q h = absurd h
   still_open (Err fault) held bytes q h = tt
 
   pub was_taken : (answer : Result Reach ServeFault) (held : Held) (bytes : List ℕ) (q : Party) → DrainsWithin start now most stream p answer held bytes q
@@ -221,6 +222,7 @@ module _ (start : World) (now : ℕ) (most : ℕ) (stream : List ℕ) (p : Party
       subst (λ (rest : List ℕ). TakesWithin start now most stream p (Ok Done) rest bytes q) (sym (ap bytes_in h.1)) h.2
   was_taken (Ok Waits) held bytes q h =
       subst (λ (rest : List ℕ). TakesWithin start now most stream p (Ok Waits) rest bytes q) (sym (ap bytes_in h.1)) h.2
+  was_taken (Ok Full) held bytes q h = h
   was_taken (Err fault) held bytes q h = h
 
 -- the piece was added, and nothing was answered yet

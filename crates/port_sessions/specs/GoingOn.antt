@@ -11,7 +11,7 @@ use Rattle.resp2.specs.Asked.{Asks}
 use Rattle.resp2.specs.declared.command.CommandFault.{CommandFault}
 use Rattle.sentinel_cell.specs.Histories.{World}
 use Rattle.port_sessions.specs.declared.limit.Reach.{Reach}
-use Rattle.port_sessions.specs.declared.limit.Reach.TheVariants.{Done, Waits}
+use Rattle.port_sessions.specs.declared.limit.Reach.TheVariants.{Done, Waits, Full}
 use Rattle.port_sessions.specs.declared.ahead.Ahead.{Ahead}
 use Rattle.port_sessions.specs.declared.ahead.Ahead.TheVariants.{Asked, PutOff, Short}
 use Rattle.port_sessions.specs.Stores.{may_store, one_if, stores_among, IsStoreNext}
@@ -40,10 +40,11 @@ module _ (start : World) (now : ℕ) (most : ℕ) (stream : List ℕ) (p : Party
   BreaksWithin Read bytes q = ⊥
   BreaksWithin Write bytes q = ⊥
 
-  -- how such a call ends; a session that ended listens to nothing
+  -- how such a call ends, whatever is unsent; a session that ended listens to nothing
   abbrev pub GoesOn : Result Reach ServeFault → (held bytes : List ℕ) → Party → Type 0
   GoesOn (Ok Done) held bytes q = IsFinished held bytes q
   GoesOn (Ok Waits) held bytes q = IsPutOff held bytes q
+  GoesOn (Ok Full) held bytes q = ⊥
   GoesOn (Err fault) held bytes q = (q.listens ≡ None) × (listened : Option ℕ) × BreaksWithin fault bytes (party q.view listened)
 
   -- ---- within the call
@@ -57,6 +58,7 @@ module _ (start : World) (now : ℕ) (most : ℕ) (stream : List ℕ) (p : Party
   abbrev pub Stops : Reach → Held → (bytes : List ℕ) → Party → Type 0
   Stops Done held bytes q = (rest : List ℕ) × (held ≡ reading rest) × IsFinished rest bytes q
   Stops Waits held bytes q = (rest : List ℕ) × (held ≡ reading rest) × IsPutOff rest bytes q
+  Stops Full held bytes q = ⊥
 
   -- how the answering of the first whole value ends: it was answered, or no more are
   abbrev pub StepsWithin : Result (Option Reach) ServeFault → (more : ℕ) → Held → (bytes : List ℕ) → Party → Type 0
@@ -73,6 +75,7 @@ module _ (start : World) (now : ℕ) (most : ℕ) (stream : List ℕ) (p : Party
   abbrev pub TakesWithin : Result Reach ServeFault → (held bytes : List ℕ) → Party → Type 0
   TakesWithin (Ok Done) held bytes q = IsFinished held bytes q
   TakesWithin (Ok Waits) held bytes q = IsPutOff held bytes q
+  TakesWithin (Ok Full) held bytes q = ⊥
   TakesWithin (Err fault) held bytes q = BreaksWithin fault bytes q
 
 -- ---- the next value

@@ -16,6 +16,9 @@ pub enum Reach {
     Done,
     /// The next one may store, and waits.
     Waits,
+    /// So much is unsent that all that comes next waits until some of it went out. A session without courtesies has no
+    /// such limit.
+    Full,
 }
 
 /// Whether the answer to a command may be stored before it is told: FLUSHCONFIG's, and a vote.

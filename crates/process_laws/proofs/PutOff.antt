@@ -6,7 +6,7 @@ use Rattle.courteous_sessions.specs.GoingOn.{GoesOn, IsPutOff, BreaksWithin}
 use Rattle.courteous_sessions.specs.Stores.{stores_among}
 use Rattle.courteous_sessions.specs.Visits.{Guest, ServesAll, IsLost, IsSeenAfter, IsCut}
 use Rattle.port_sessions.specs.declared.limit.Reach.{Reach}
-use Rattle.port_sessions.specs.declared.limit.Reach.TheVariants.{Done, Waits}
+use Rattle.port_sessions.specs.declared.limit.Reach.TheVariants.{Done, Waits, Full}
 use Rattle.resp2.specs.Framing.Frame.{Frame}
 use Rattle.sentinel_cell.specs.declared.view.View.{View}
 use Rattle.sentinel_cell.specs.Histories.{World}
@@ -23,6 +23,7 @@ pub reads_in : (start : World) (now most : ℕ) (stream : List ℕ) (g : Guest) 
     (it : GoesOn start now most stream g (Ok reach) held bytes h) → Reads stream (values_in start now most stream g held bytes h reach it) held
 reads_in start now most stream g held bytes h Done it = subst (λ (t : List ℕ). Reads stream it.answered.values t) it.answered.splits.2.0 it.answered.splits.1
 reads_in start now most stream g held bytes h Waits it = it.parts
+reads_in start now most stream g held bytes h Full it = it.parts
 
 module _ (start : World) (now : ℕ) where
   serves_on : (g : Guest) (values more : List Frame) (bytes later : List ℕ) (m h : Guest) → ServesAll start now g values bytes m
@@ -108,6 +109,12 @@ module _ (start : World) (now most more : ℕ) (stream piece held bytes answers 
     answers = serves_on start now g a.values b.values bytes answers middle h a.answers b.answers;
     all = all_stores b.values b.all;
     next = b.next;
+  }
+  goes_on later h (Ok Full) b = record {
+    values = a.values ++ b.values;
+    parts = join_reads b.values later b.parts;
+    answers = serves_on start now g a.values b.values bytes answers middle h a.answers b.answers;
+    few = few_stores b.values b.few;
   }
   goes_on later h (Err fault) b = breaks_on fault h.party.view b
 

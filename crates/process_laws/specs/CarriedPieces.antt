@@ -23,7 +23,7 @@ use Rattle.process_laws.specs.PutOff.{values_in, serves_in}
 use Rattle.process_laws.specs.SharedConnections.{IsLater}
 
 -- What a port puts out for pieces, one after the other, each of which its session takes at a reading of the clock of its own. It answers the piece whole, or stops before a
--- value that may store, and goes on with that at the next piece, which may be empty. `held` is what it holds before them. Between two pieces the seat sees more
+-- value that may store or as so much is unsent, and goes on with that at the next piece, which may be empty. `held` is what it holds before them. Between two pieces the seat sees more
 abbrev pub AnsweredOn : World → Guest → (held : List ℕ) → (pieces : List (List ℕ)) → (bytes : List ℕ) → Type 0
 AnsweredOn start g held [] bytes = bytes ≡ []
 AnsweredOn start g held (piece ∷ pieces) bytes =

@@ -231,6 +231,17 @@ fn watch<'a>(alloc: Global) -> Result<Command<'a>, AllocError> {
         .long("quiet")
         .action(ArgAction::SetTrue)
         .help("Notes on standard error warnings alone, and why it ends");
+    let times = Arg::new(alloc, "times")
+        .long("times")
+        .action(ArgAction::SetTrue)
+        .help(
+            "Begins each note with the time, as without this word where standard error isn't systemd's journal",
+        );
+    let no_times = Arg::new(alloc, "no-times")
+        .long("no-times")
+        .action(ArgAction::SetTrue)
+        .help("Begins no note with the time")
+        .conflicts_with("times")?;
     let ready_file = Arg::new(alloc, "ready-file")
         .long("ready-file")
         .value_name("file")
@@ -243,6 +254,8 @@ fn watch<'a>(alloc: Global) -> Result<Command<'a>, AllocError> {
             "Runs one Sentinel, which watches Redis servers and speaks to the other Sentinels over TCP",
         )
         .arg(quiet)?
+        .arg(times)?
+        .arg(no_times)?
         .arg(port_threads(alloc))?
         .arg(ready_file)?
         .arg(conf)

@@ -13,6 +13,7 @@ mod command_line;
 mod conf_paths;
 mod failures;
 mod group_files;
+mod journals;
 mod locks;
 mod looking;
 mod mending;
@@ -39,6 +40,7 @@ use crate::command_line::{command, refuse_unread, tell_words, words};
 use crate::conf_paths::ConfPath;
 use crate::failures::fail;
 use crate::group_files::file_of;
+use crate::journals::note_form;
 use crate::locks::{lock_file, refuse_lock};
 use crate::looking::status;
 use crate::new_groups::new_group;
@@ -160,7 +162,8 @@ fn main(rt: HostRuntime) -> ExitCode {
             Some(("status", words)) => status(rt, words),
             Some(("watch", words)) => {
                 // (as above)
-                let Ok((queue, writer)) = NoteQueue::open(rt, rt.alloc(), NoteForm::Bare) else {
+                let Ok((queue, writer)) = NoteQueue::open(rt, rt.alloc(), note_form(rt, words))
+                else {
                     return fail(&rt, ServeFault::NoMemory);
                 };
                 let noting = Logged::new(rt, watch_level(words), queue);

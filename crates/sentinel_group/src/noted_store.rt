@@ -6,8 +6,14 @@ use conf_lines::{Line, line_of};
 use log::{Level, Log, log_enabled, warn};
 use sentinel_conf::{ConfStore, FileFault, FileStep, FileStore, FileText, LoadFault, StoreRefused};
 use std::alloc::AllocError;
+use std::io;
 use std::marker::Model;
 use std::str::from_utf8;
+use std::time::Instant;
+
+/// How long a store may take before that is noted, in milliseconds: every vote and each step of a failover waits for
+/// one.
+const SLOW_MS: u128 = 1_000;
 
 /// A store that tells why its calls failed, and what somebody else put in the place of its text.
 pub(crate) trait TellsFault: ConfStore {
@@ -50,10 +56,12 @@ fn has_line(text: &[u8], line: &str) -> bool {
 }
 
 /// The file of the Sentinel with this port, as a store. Each text that is refused gets a note: which Sentinel, which
-/// file, what failed, and the system's reason; so does a load that fails, as at a start by order, and a text that is
-/// about to take the place of what somebody else wrote. Contracts see the store without its notes.
+/// file, what failed, and the system's reason; so does a load that fails, as at a start by order, a text that is about
+/// to take the place of what somebody else wrote, and a store that takes a second or more. Contracts see the store
+/// without its notes.
 #[derive(Drop)]
 pub(crate) struct NotedStore<'a, S: TellsFault, R: Log> {
+    rt: HostRuntime,
     store: S,
     noting: &'a R,
     port: u16,
@@ -81,6 +89,7 @@ impl<'a, S: TellsFault + Drop, R: Log> NotedStore<'a, S, R> {
         ensures { IfOk result (λ noted. noted ≡ store) }
     {
         Ok(NotedStore {
+            rt,
             store,
             noting,
             port,
@@ -125,6 +134,21 @@ impl<'a, S: TellsFault + Drop, R: Log> NotedStore<'a, S, R> {
         }
     }
 
+    /// Notes that a store which began at this moment took long. Where the clock can't be read, nothing is noted.
+    fn note_slow(&self, begun: io::Result<Instant>) {
+        if let Ok(begun) = begun
+            && let Ok(took) = begun.elapsed(&self.rt)
+            && took.as_millis() >= SLOW_MS
+        {
+            let noting = self.noting.span("sentinel").with("port", self.port);
+            let (path, millis) = (self.path.as_str(), took.as_millis());
+            warn!(noting;
+                "storing {path} took {millis} ms: votes and failovers wait for it, so see its disk and what else \
+                writes there"
+            );
+        }
+    }
+
     /// Notes that the file isn't loaded, and why.
     fn note_unloaded(&self) {
         let Some(FileFault { step, error }) = self.store.fault() else {
@@ -157,10 +181,12 @@ impl<S: TellsFault + Drop, R: Log> ConfStore for NotedStore<'_, S, R> {
         if self.store.is_edited() {
             self.note_edited(text);
         }
+        let begun = Instant::now(&self.rt);
         let stored = self.store.replace(text);
         if stored.is_err() {
             self.note_refused();
         }
+        self.note_slow(begun);
         stored
     }
 

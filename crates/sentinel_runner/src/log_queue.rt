@@ -6,7 +6,9 @@
 //! own, before the next note that isn't lost, or at the end.
 
 mod backlog;
+mod note_forms;
 mod queue;
 
 pub use backlog::WAITING_MAX;
-pub use queue::{NoteForm, NoteQueue, NoteWriter};
+pub use note_forms::NoteForm;
+pub use queue::{NoteQueue, NoteWriter};

@@ -1,4 +1,5 @@
-//! What is noted of the replicas that a master lists and no file names.
+//! What is noted of replicas: those that a master lists and no file names, and those whose link to the master stays
+//! down.
 
 ghost use Rattle.std.specs.Prelude.{◌≡◌, Some, None, MatchOption};
 ghost use Rattle.ballot_law.specs.Cuts.{cut_at};
@@ -13,20 +14,33 @@ use std::alloc::Global;
 use std::str::from_utf8;
 use tokens::{address_of, are_digits, split_at_byte};
 
-/// Of how many such replicas it is kept when they were noted; where there are more, no further one is noted.
+/// Of how many replicas it is kept when they were noted; where there are more, no further one is noted.
 const KEPT_MAX: usize = 64;
 
-/// A replica that no file names, and when it was noted.
+/// How long the link of a replica may be down before that is noted, in milliseconds: a failover, and a connection that
+/// is made anew, take less.
+const LINK_DOWN_MS: u64 = 30_000;
+
+/// A replica, and when it was noted that no file names it.
 #[derive(Clone, Copy)]
 struct Unnamed {
     addr: Addr,
     noted: Seldom,
 }
 
-/// The replicas that were noted.
+/// A replica whose link is down, the moment at which it first said so, and when that was noted.
+#[derive(Clone, Copy)]
+struct Unlinked {
+    number: u16,
+    since: u64,
+    noted: Seldom,
+}
+
+/// The replicas that were noted, or are to be once their links have been down for long enough.
 #[derive(Drop)]
 pub(crate) struct ReplicaNotes {
     unnamed: Vec<Unnamed>,
+    unlinked: Vec<Unlinked>,
 }
 
 /// What stands before the first byte of this value; all where none has it.
@@ -77,6 +91,7 @@ impl ReplicaNotes {
     pub(crate) fn new(alloc: Global) -> ReplicaNotes {
         ReplicaNotes {
             unnamed: Vec::new(alloc),
+            unlinked: Vec::new(alloc),
         }
     }
 
@@ -94,8 +109,51 @@ impl ReplicaNotes {
             && self.unnamed.push(Unnamed { addr, noted }).is_ok()
     }
 
+    /// For how many milliseconds the link of the node with this number has been down, where that is to be noted now:
+    /// once it was for 30 s, and each ten minutes while it stays so.
+    fn takes_link_note(&mut self, number: u16, now: u64) -> Option<u64> {
+        for unlinked in self.unlinked.iter_mut() {
+            if unlinked.number == number {
+                let down_for = now.saturating_sub(unlinked.since);
+                let is_due = down_for >= LINK_DOWN_MS
+                    && unlinked.noted.takes_note(now, DIFFERENT_MS);
+                return if is_due { Some(down_for) } else { None };
+            }
+        }
+        if self.unlinked.len() < KEPT_MAX {
+            let _ = self.unlinked.push(Unlinked {
+                number,
+                since: now,
+                noted: Seldom::new(),
+            });
+        }
+        None
+    }
+
+    /// Takes in what an INFO of a replica says of its link. One that copies its master's data has none yet, however
+    /// long that takes.
+    fn hear_link<R: Log>(&mut self, rt: &R, roster: &Roster, number: u16, now: u64, text: &str) {
+        let says = |line: &str| text.split("\r\n").any(|it| it == line);
+        if !says("master_link_status:down") || says("master_sync_in_progress:1") {
+            self.unlinked.retain(|it| it.number != number);
+            return;
+        }
+        if let Some(down_for) = self.takes_link_note(number, now)
+            && let Some(at) = roster.node_numbered(number)
+            && let Some(watched) = roster.masters().get(at.master as usize)
+        {
+            let (name, addr) = (named(&watched.name), Told(roster.addr_at(at)));
+            let seconds = down_for / 1_000;
+            warn!(rt; target: "tcp_wires::replica_notes",
+                "replica {addr} of {name} has had no link to its master for {seconds} s: it gets no writes, and isn't \
+                chosen once the link is down for too long. See its own log, the network between the two, and \
+                `masterauth` and `masteruser` on it"
+            );
+        }
+    }
+
     /// Takes in an INFO of a data node at a reading of the clock. Where it is a master's, each replica that it lists
-    /// and the roster doesn't have is noted.
+    /// and the roster doesn't have is noted; where it is a replica's, a link that stays down.
     pub(crate) fn hear<R: Log>(
         &mut self,
         rt: &R,
@@ -111,6 +169,7 @@ impl ReplicaNotes {
             return;
         };
         if !text.split("\r\n").any(|line| line == "role:master") {
+            self.hear_link(rt, roster, number, now, text);
             return;
         }
         for line in text.split("\r\n") {

@@ -3,6 +3,7 @@
 ghost use Rattle.std.specs.Prelude.{◌≡◌, IfOk};
 
 use crate::log_queue::backlog::{Backlog, WAITING_MAX};
+use crate::log_queue::note_forms::NoteForm;
 use crossbeam_channel::{Receiver, RecvTimeoutError, Sender, unbounded};
 use log::kv::Source;
 use log::span::Spans;
@@ -16,16 +17,6 @@ use std::time::Duration;
 
 /// For how long standard error may take no note at the end, in milliseconds, before those that wait are given up.
 const END_MS: u64 = 500;
-
-/// How a note is written as a line.
-#[derive(Clone, Copy, PartialEq, Eq)]
-pub enum NoteForm {
-    /// With its level, with where it comes from in the program, and with which Sentinel it is of, as
-    /// `[WARN  place] sentinel{port=26379}: text`.
-    Whole,
-    /// As its text alone, with `warning: ` before that of a warning: for a program of one Sentinel.
-    Bare,
-}
 
 /// A note that waits, and how many were lost right before it.
 #[derive(Drop)]
@@ -54,20 +45,20 @@ pub struct NoteWriter {
     backlog: Arc<Mutex<Backlog>, Global>,
 }
 
-impl<R: Wait> NoteQueue<R> {
+impl<R: Wait + Clock> NoteQueue<R> {
     /// The line of a note. The error is a refused allocation.
     fn line_of<D: Display, K: Source, S: Spans>(
         &self,
         record: &Record<'_, D, K, S>,
     ) -> Result<String, AllocError> {
         let text = record.args();
-        match (self.form, record.level()) {
+        let line = match (self.form, record.level()) {
             (NoteForm::Whole, _) => String::format(self.alloc, Line::new(record)),
-            (NoteForm::Bare, Level::Error | Level::Warn) => format!(in self.alloc;
-                "warning: {text}"
-            ),
-            (NoteForm::Bare, _) => format!(in self.alloc; "{text}"),
-        }
+            (_, Level::Error | Level::Warn) => format!(in self.alloc; "warning: {text}"),
+            _ => format!(in self.alloc; "{text}"),
+        }?;
+        self.form
+            .fronted(&self.rt, self.alloc, record.level(), line)
     }
 
     /// Has a line wait, which tells that so many notes were lost before it. It is lost where there is no memory.
@@ -78,7 +69,7 @@ impl<R: Wait> NoteQueue<R> {
     }
 }
 
-impl<R: Wait> Log for NoteQueue<R> {
+impl<R: Wait + Clock> Log for NoteQueue<R> {
     ghost use Rattle.std.specs.Prelude.{true, [], Some};
 
     ghost enables = { λ _ _ _. Some true };
@@ -107,35 +98,42 @@ impl<R: Wait> Log for NoteQueue<R> {
     }
 }
 
-/// Tells how many notes were lost, where any were.
-fn tell_lost<R: Eprint>(rt: &R, form: NoteForm, lost: u64) {
-    if lost > 0 {
-        let front = match form {
-            NoteForm::Whole => "[WARN  queued_notes] ",
-            NoteForm::Bare => "warning: ",
-        };
-        let _ = eprintln!(rt;
-            "{front}{lost} notes were lost here: standard error took none, or there was no memory"
-        );
+/// Tells how many notes were lost, where any were. Where there is no memory for the line, nothing tells it.
+fn tell_lost<R: Eprint + Clock>(rt: &R, alloc: Global, form: NoteForm, lost: u64) {
+    if lost == 0 {
+        return;
+    }
+    let front = match form {
+        NoteForm::Whole => "[WARN  queued_notes] ",
+        NoteForm::Bare { .. } => "warning: ",
+    };
+    let line = format!(in alloc;
+        "{front}{lost} notes were lost here: standard error took none, or there was no memory"
+    );
+    if let Ok(line) = line
+        && let Ok(line) = form.fronted(rt, alloc, Level::Warn, line)
+    {
+        let _ = eprintln!(rt; "{line}");
     }
 }
 
 /// Writes each note that comes, until nobody is left who could put one into the queue. A note that can't be written is
 /// lost.
-fn write_all<R: Wait + Eprint>(
+fn write_all<R: Wait + Eprint + Clock>(
     rt: &R,
+    alloc: Global,
     form: NoteForm,
     notes: &Receiver<QueuedNote>,
     backlog: &Mutex<Backlog>,
 ) {
     for note in notes.iter(rt) {
         let QueuedNote { lost, line } = note;
-        tell_lost(rt, form, lost);
+        tell_lost(rt, alloc, form, lost);
         let _ = eprintln!(rt; "{line}");
         backlog.lock(rt).leave();
     }
     let lost = backlog.lock(rt).take_lost();
-    tell_lost(rt, form, lost);
+    tell_lost(rt, alloc, form, lost);
 }
 
 impl<R: Wait> NoteQueue<R> {
@@ -147,7 +145,7 @@ impl<R: Wait> NoteQueue<R> {
         form: NoteForm,
     ) -> Result<(NoteQueue<R>, NoteWriter), AllocError>
     where
-        R: Threads + Eprint + Copy + Drop + Send + 'static,
+        R: Threads + Eprint + Clock + Copy + Drop + Send + 'static,
         ensures { IfOk result (λ r. r.0.rt ≡ rt) }
     {
         let (to, notes) = unbounded(alloc)?;
@@ -156,7 +154,7 @@ impl<R: Wait> NoteQueue<R> {
         let written = Arc::try_clone(&backlog)?;
         let looked_at = Arc::try_clone(&backlog)?;
         let begun = thread::spawn(&rt, move || {
-            write_all(&rt, form, &notes, &written);
+            write_all(&rt, alloc, form, &notes, &written);
             drop(end.send(&rt, 1));
         });
         if begun.is_err() {

@@ -7,4 +7,4 @@ use Rattle.client_port.proofs.connection.Connection.send.Given as goal
 abbrev pub invariant-loop : goal.invariant-loop
 invariant-loop g l =
     IsSent (g.T.Write.contents l.fn.self.stream) (g.T.Write.contents l.self.stream) (unsent_of l.fn.self.session) (unsent_of l.self.session)
-    × (l.self.stores ≡ l.fn.self.stores)
+    × (l.self.reach ≡ l.fn.self.reach)

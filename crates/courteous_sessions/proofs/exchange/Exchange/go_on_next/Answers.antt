@@ -6,7 +6,7 @@ use Rattle.resp2.specs.Framing.Frame.{view}
 use Rattle.courteous_sessions.specs.GoingOn.{IsCommonAhead, Stops}
 use Rattle.courteous_sessions.specs.OnTheWay.{guest_of}
 use Rattle.courteous_sessions.specs.Visits.{Guest}
-use Rattle.courteous_sessions.proofs.GoingOn.{common_within, value_within, cut_within, finished, refused_within, guest_same}
+use Rattle.courteous_sessions.proofs.GoingOn.{common_within, common_adds, value_within, value_adds, cut_within, finished, refused_within, guest_same}
 use Rattle.client_commands.specs.Lines.{value_at}
 use Rattle.resp2.specs.Framing.Stream.{bytes_in}
 use Rattle.resp2.proofs.Switches.{known_too}
@@ -92,3 +92,27 @@ returns-clause-answered g c = λ most stream first bytes visitor is a.
     refused_within c.args.cell.now.start c.args.now most stream visitor c.args.limit.now.most before.attendant.held c.next_within.new.self.attendant.held bytes
     (guest_of before.attendant before.subscriptions before.responder.hears c.args.seat.now.view) c.in-Err.fault first before.responder.unsent.items c.refuse.new.self.unsent.items c.refuse.result is a
     c.requires.ready.reads c.in-Err.ensures.ahead (rw c.next_within.ensures.unsent at c.refuse.ensures.refused)
+
+pub returns-in-Ok-clause-one : goal.returns-in-Ok-clause-one
+returns-in-Ok-clause-one g c =
+    let before = c.args.self.now in
+    let limit = c.next_within.new.limit in
+    let after = c.tell_common.new.self in
+    let kept = c.tell_common.ensures.kept.0 in
+    let command = c.in-Ok-Common.command in
+    let ahead = rw c.in-Ok-Common.field-0-is at c.in-Ok-Common.ensures.ahead in
+    let there = subst (λ (x : Attendance). IsCommonAhead before.attendant.asker before.subscriptions c.args.limit.now.most before.attendant.held command limit.most limit.mark x.held)
+    (sym kept) ahead
+    in
+    common_adds c.args.cell.now.start c.args.now command before.attendant after.attendant before.subscriptions before.responder.unsent.items after.responder.unsent.items
+    before.responder.hears after.responder.hears c.args.seat.now.view c.tell_common.new.seat.view c.args.limit.now.most limit.most limit.mark c.requires.ready there
+    (ap (λ (x : Attendance). x.asker) kept ∙ c.next_within.ensures.asker) (c.tell_common.ensures.told ∙ ap (λ (t : NotesHeard). t.told) c.next_within.ensures.hears)
+    (rw (c.next_within.ensures.hears, c.next_within.ensures.unsent, c.next_within.ensures.asker) at c.in-Ok.ensures.answered)
+
+pub returns-in-Ok-tell_value-clause-one : goal.returns-in-Ok-tell_value-clause-one
+returns-in-Ok-tell_value-clause-one g c =
+    let mid = c.next_within.new.self in
+    let after = c.tell_value.new.self in
+    value_adds c.args.cell.now.start c.args.now (guest_of mid.attendant mid.subscriptions mid.responder.hears c.args.seat.now.view)
+    (guest_of after.attendant after.subscriptions after.responder.hears c.tell_value.new.seat.view) (view c.in-Ok-Any.value) c.args.self.now.responder.unsent.items
+    mid.responder.unsent.items after.responder.unsent.items c.next_within.ensures.unsent c.in-Ok-tell_value.ensures.served

@@ -3,7 +3,7 @@ use Rattle.client_commands.specs.Attendants.{Attendance}
 use Rattle.resp2.specs.Framing.Stream.{reading, bytes_in}
 use Rattle.courteous_sessions.specs.GoingOn.{IsWithin}
 use Rattle.courteous_sessions.specs.OnTheWay.{guest_of}
-use Rattle.courteous_sessions.proofs.GoingOn.{was_taken}
+use Rattle.courteous_sessions.proofs.GoingOn.{was_taken, rest_in_time}
 use Rattle.courteous_sessions.proofs.InPlace.{no_rest, done_in_place}
 use Rattle.courteous_sessions.proofs.exchange.Exchange.take_some.Goals as goal
 
@@ -41,3 +41,8 @@ returns-else-self-clause-received g c =
 
 pub returns-in-Err-clause-received : goal.returns-in-Err-clause-received
 returns-in-Err-clause-received g c = c.in-Err.ensures.answered c.args.most
+
+pub returns-else-self-clause-in_time : goal.returns-else-self-clause-in_time
+returns-else-self-clause-in_time g c =
+    rest_in_time c.args.cell.now.start c.args.now c.take_some_rest.result c.args.self.now.responder.unsent.items c.answer_in_place.new.self.responder.unsent.items
+    c.take_some_rest.new.self.responder.unsent.items c.in-Ok.ensures.in_time c.take_some_rest.ensures.in_time

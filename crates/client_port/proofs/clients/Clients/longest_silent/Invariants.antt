@@ -1,6 +1,0 @@
-use Rattle.std.proofs.Common.{◌≡◌}
-use Rattle.client_port.proofs.clients.Clients.longest_silent.Given as goal
-
--- no connection was touched so far
-abbrev pub invariant-loop : goal.invariant-loop
-invariant-loop l = l.self.connections ≡ l.fn.self.connections
