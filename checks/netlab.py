@@ -100,7 +100,7 @@ class Lab:
         self.stores, self.sentinels = [f"d{number}" for number in range(nodes)], [f"s{place}" for place in range(len(kinds))]
         self.names = [*self.stores, *self.sentinels, OBSERVER]
         self.folder = tempfile.mkdtemp(prefix="netlab-")
-        self.processes, self.disks, self.ended, self.began = {}, {}, {}, time.monotonic()
+        self.processes, self.disks, self.ended, self.still, self.began = {}, {}, {}, set(), time.monotonic()
         self.own = os.open("/proc/self/ns/net", os.O_RDONLY)
         self.fsync = disks.built_fsync(self.folder) if has_fsync else None
         self._make_network()
@@ -140,11 +140,24 @@ class Lab:
         ip("neigh", "del", self.address(target), "dev", "eth0", namespace=sender, quiet=True)
 
     def part(self, some, others):
-        """Cuts two groups of nodes from each other, both ways."""
-        for one in some:
-            for other in others:
-                self.cut(one, other)
-                self.cut(other, one)
+        """Cuts two groups of nodes from each other, both ways. Each node's cuts are made at once, and all nodes' beside each other: half a cut lets votes through."""
+        self._for_each({**{one: others for one in some}, **{other: some for other in others}}, "replace", "lladdr", NOBODY, "dev", "eth0", "nud", "permanent")
+
+    def join(self, some, others):
+        """Heals what `part` cut."""
+        self._for_each({**{one: others for one in some}, **{other: some for other in others}}, "del", "dev", "eth0")
+
+    def _for_each(self, targets, what, *words):
+        """Has each of these nodes do something with its neighbours, whose names are given."""
+        running = []
+        for name, others in targets.items():
+            batch = subprocess.Popen(["ip", "-n", name, "-force", "-batch", "-"], stdin=subprocess.PIPE, stdout=subprocess.DEVNULL, stderr=subprocess.DEVNULL, text=True)
+            batch.stdin.write("".join(" ".join(["neigh", what, self.address(other), *words]) + "\n" for other in others))
+            batch.stdin.close()
+            running.append(batch)
+        for batch in running:
+            if batch.wait() and what == "replace":
+                raise RuntimeError(f"ip neigh {what} ended with {batch.returncode}")
 
     def heal_all(self):
         for one in self.names[:-1]:
@@ -238,11 +251,16 @@ class Lab:
         return self.kinds[self.sentinels.index(name)]
 
     def send(self, name, number):
-        """Sends a signal to a node, which `ip netns exec` has become."""
+        """Sends a signal to a node, which `ip netns exec` has become. One that stands still is asked for nothing until it goes on."""
         self.processes[name].send_signal(number)
+        if number == signal.SIGSTOP:
+            self.still.add(name)
+        elif number == signal.SIGCONT:
+            self.still.discard(name)
 
     def kill(self, name):
         process = self.processes.pop(name)
+        self.still.discard(name)
         process.send_signal(signal.SIGCONT)
         process.kill()
         process.wait()
@@ -300,6 +318,8 @@ class Lab:
 
     def role(self, name):
         """`master`, or the node that it follows with the state of its link; None where it says nothing."""
+        if name in self.still:
+            return None
         found = ask((self.address(name), PORT), "ROLE", password=self.password)
         if not isinstance(found, list):
             return None
