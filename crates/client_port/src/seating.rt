@@ -79,7 +79,8 @@ impl Seating {
     fn first_stranger(&mut self, connections: &Connections) -> Option<usize>
         ensures goes { IfSome result (λ key. IfSome (get connections.now key) (λ c. (has_own_seat c.origin.place ≡ false) × (owes_password c.session ≡ true))) }
     {
-        for _ in 0..self.strangers.len() {
+        // (each is put off once at most)
+        for _ in 0..self.strangers.len().saturating_mul(2) {
             let (since, key) = self.strangers.first()?;
             match look_at_stranger(connections, since, key) {
                 Look::Goes => return Some(key),
@@ -118,7 +119,8 @@ impl Seating {
         ensures goes { IfSome result (λ key. IfSome (get connections.now key) (λ c. (has_own_seat c.origin.place ≡ false)
             × (listens_of c.session ≡ false) × (unsent_of c.session ≡ []))) }
     {
-        for _ in 0..self.silent.len() {
+        // (each is put off once at most)
+        for _ in 0..self.silent.len().saturating_mul(2) {
             let (since, key) = self.silent.first()?;
             match self.look_at_silent_one(connections, least, since, key) {
                 Look::Goes => return Some(key),
