@@ -1,5 +1,5 @@
 -- A failover that comes to nothing, or goes on in another way, apart from the rows of its table. By the strict rule, as in Redis, it goes by the table alone.
-use Rattle.std.specs.Prelude.{ℕ, ◌+◌, Bool, true, false, not, ◌&&◌, ◌||◌, nat_le, ◌==◌, unwrap_or, Option, Some, None, length, nat_lt, ◌*◌, count_by, if◌then◌else◌}
+use Rattle.std.specs.Prelude.{ℕ, ◌+◌, Bool, true, false, not, ◌&&◌, ◌||◌, nat_le, ◌==◌, unwrap_or, Option, Some, None, length, nat_lt, ◌/◌, count_by, if◌then◌else◌}
 use Rattle.ballot_law.specs.declared.addresses.RunId.{RunId}
 use Rattle.ballot_law.specs.declared.hearings.HeardVote.{HeardVote}
 use Rattle.ballot_law.specs.Counts.{count_below}
@@ -39,7 +39,7 @@ is_well plan core m now =
 -- connection isn't back yet
 abbrev pub is_outvoted : Plan → Core → (m : ℕ) → Bool
 is_outvoted plan core m =
-    nat_lt (group_size plan) (2 * count_by (says_up (unwrap_or (master_of core m).ask_sent 0)) (master_of core m).reports)
+    nat_lt (group_size plan / 2) (count_by (says_up (unwrap_or (master_of core m).ask_sent 0)) (master_of core m).reports)
 
 -- the failover was begun since the master was down, and it is back, or is up for the others: a replica that took its place would lose what it wrote
 abbrev pub is_needless : Plan → Core → (m now : ℕ) → Bool

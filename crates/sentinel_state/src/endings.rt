@@ -104,7 +104,7 @@ impl Core {
             Some(master) => master.reports.up_since(since),
             None => 0,
         };
-        usize::from(plan.group_size()) < 2 * up
+        usize::from(plan.group_size()) / 2 < up
     }
 
     /// Whether a failover was begun since the master was down, and it is back, or is up for the others.
