@@ -37,7 +37,7 @@ is_well plan core m now =
 
 -- More than half of the group have said since they were asked last that it is up. It is this Sentinel that doesn't reach it, as where a cut has healed, and its own
 -- connection isn't back yet
-abbrev pub is_outvoted : Plan → Core → (m : ℕ) → Bool
+unfoldable pub is_outvoted : Plan → Core → (m : ℕ) → Bool
 is_outvoted plan core m =
     nat_lt (group_size plan / 2) (count_by (says_up (unwrap_or (master_of core m).ask_sent 0)) (master_of core m).reports)
 

@@ -96,6 +96,7 @@ impl Core {
     }
 
     /// Whether more than half of the group have said since they were asked last that a master is up.
+    #[tactic(auto, unfolding(sentinel_rules::specs::Endings::is_outvoted))]
     fn is_outvoted(&self, plan: &Plan, m: u16) -> bool
         ensures { result ≡ is_outvoted plan.now self.now m }
     {
