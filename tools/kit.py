@@ -29,7 +29,7 @@ TOP = os.path.dirname(os.path.dirname(os.path.realpath(__file__)))
 OUT = f"{TOP}/out"
 PROGRAM = "sentinel_group"
 # How much nicer whatever isn't of the longest chain is.
-SIDE = 5
+SIDE = 10
 # How many programs of each kind stay, the newest, so that whoever goes back to earlier sources finds theirs.
 STAY = 4
 
@@ -226,8 +226,9 @@ class Lanes:
     """Tasks that run side by side, as by rt's `in_lanes`, which gives each proof one job where others are ready: then the longest chain takes most of the time,
     while processors have nothing to do.
 
-    Here the task at which the longest chain begins doesn't wait for a processor, and gets two to four jobs, of which two count, since a proof ends with a part that
-    is done by one; the others are nicer than it. A proof takes half the memory that rt reckons, or less, as was measured on 1 December 2026 for each crate."""
+    Here the task at which the longest chain begins doesn't wait for a processor, and gets a job for each, four at most. It counts as one, since much of a proof is done
+    by one job, and the others are nicer than it. By the memory that rt reckons a proof takes half, and an eighth more for each further job: that is more than
+    any was seen to take, as measured on 1 December 2026."""
 
     def __init__(self, rt, tasks):
         number = os.environ.get("RT_JOBS", "")
@@ -253,18 +254,18 @@ class Lanes:
         for at, key in enumerate(ready):
             is_first = all(self.chains[key] >= self.chains[it] for it in self.running)
             idle = self.processors - sum(jobs for jobs, _ in self.running.values())
-            most = max(2, min(4, idle)) if is_first else min(2, idle // (len(ready) - at) or 1)
+            most = min(4, self.processors) if is_first else min(2, idle // (len(ready) - at) or 1)
             if idle > 0 or is_first:
                 self.begin(key, most, is_first)
 
     def begin(self, key, most, is_first):
         """Begins a task with so many jobs at most, if there is memory for it, or nothing else runs."""
         room = self.memory - sum(needs for _, needs in self.running.values())
-        needs = {jobs: self.tasks[key][2] / 2 * (1 + 0.6 * (jobs - 1)) for jobs in range(1, most + 1)}
+        needs = {jobs: self.tasks[key][2] * (0.5 + 0.125 * (jobs - 1)) for jobs in range(1, most + 1)}
         jobs = max((it for it in needs if needs[it] <= room), default=0 if self.running else 1)
         if jobs:
             self.left.remove(key)
-            self.running[key] = min(jobs, 2), needs[jobs]
+            self.running[key] = 1 if is_first else jobs, needs[jobs]
             threading.Thread(target=self.work, args=(key, jobs, is_first), daemon=True).start()
 
     def work(self, key, jobs, is_first):
