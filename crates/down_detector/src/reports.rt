@@ -2,6 +2,8 @@
 
 ghost use Rattle.std.specs.Prelude.{◌≡◌, ℕ, ◌+◌, ◌<◌, ◌^◌, nat_le, ◌∷◌, List, [], None, IfOk, length, replicate};
 ghost use Rattle.ballot_law.specs.Clocks.{clock};
+ghost use Rattle.std.specs.Prelude.{count_by};
+ghost use Rattle.down_detector.specs.Ups.{says_up};
 ghost use Rattle.ballot_law.specs.Reports.{ReportCall, Reported, Cleared, last_report, down_count, is_odown_by, kept_at, StandsForReports, with_report, without_reports};
 
 use ballot_law::{DownReport, NoMemory, REPORT_MS, clock_of};
@@ -85,6 +87,19 @@ impl DownReports {
             down,
             at: clock_of(now),
         });
+    }
+
+    /// How many said last that the master is up, at this moment in milliseconds or later.
+    pub fn up_since(&self, since: u64) -> usize
+        ensures { result ≡ count_by (says_up since) self.now }
+    {
+        self.reports
+            .iter()
+            .filter(|report| match report {
+                Some(report) => !report.down && since <= report.at,
+                None => false,
+            })
+            .count()
     }
 
     /// Forgets all reports, as when the master's address changes.

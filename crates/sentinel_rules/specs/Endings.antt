@@ -1,9 +1,10 @@
 -- A failover that comes to nothing, or goes on in another way, apart from the rows of its table. By the strict rule, as in Redis, it goes by the table alone.
-use Rattle.std.specs.Prelude.{ℕ, ◌+◌, Bool, true, false, not, ◌&&◌, ◌||◌, nat_le, ◌==◌, unwrap_or, Option, Some, None, length, if◌then◌else◌}
+use Rattle.std.specs.Prelude.{ℕ, ◌+◌, Bool, true, false, not, ◌&&◌, ◌||◌, nat_le, ◌==◌, unwrap_or, Option, Some, None, length, nat_lt, ◌/◌, count_by, if◌then◌else◌}
 use Rattle.ballot_law.specs.declared.addresses.RunId.{RunId}
 use Rattle.ballot_law.specs.declared.hearings.HeardVote.{HeardVote}
 use Rattle.ballot_law.specs.Counts.{count_below}
 use Rattle.ballot_law.specs.Rosters.{need}
+use Rattle.down_detector.specs.Ups.{says_up}
 use Rattle.ballot_law.specs.VotesHeard.{kept_at, pick_in, count_in}
 use Rattle.failover_states.specs.declared.states.FailoverState.{FailoverState}
 use Rattle.failover_states.specs.declared.states.FailoverState.TheVariants.{Idle, WaitStart, SelectReplica, SendPromotion, WaitPromotion, ReconfReplicas, UpdateConfig}
@@ -34,9 +35,15 @@ is_well plan core m now =
     let node = node_of core m (card_place plan core m) in
     not (is_master_down plan core m now || (node.lost || says_replica node.info))
 
--- the failover was begun since the master was down, and it is back: a replica that took its place would lose what it wrote
+-- More than half of the group have said since they were asked last that it is up. It is this Sentinel that doesn't reach it, as where a cut has healed, and its own
+-- connection isn't back yet
+unfoldable pub is_outvoted : Plan → Core → (m : ℕ) → Bool
+is_outvoted plan core m =
+    nat_lt (group_size plan / 2) (count_by (says_up (unwrap_or (master_of core m).ask_sent 0)) (master_of core m).reports)
+
+-- the failover was begun since the master was down, and it is back, or is up for the others: a replica that took its place would lose what it wrote
 abbrev pub is_needless : Plan → Core → (m now : ℕ) → Bool
-is_needless plan core m now = not (is_planned core m) && is_well plan core m now
+is_needless plan core m now = not (is_planned core m) && (is_well plan core m now || is_outvoted plan core m)
 
 -- A switch that was asked for too long ago
 

@@ -57,10 +57,12 @@ relocated profile now node = by_profile profile (moved now node) (forgotten now 
 abbrev pub at_same_address : MasterState → MasterState
 at_same_address master = record master { nodes = map hello_soon master.nodes }
 
--- a switch that was asked for, and not begun, is another one's
-abbrev pub wish_kept : (planned wish : Option ℕ) → Option ℕ
-wish_kept None wish = None
-wish_kept (Some epoch) wish = wish
+-- a switch that was asked for, and not begun, is another one's: it is kept when it was asked for, since none is begun so soon after it, and as its own epoch one that no
+-- campaign has
+abbrev pub planned_after : (planned wish : Option ℕ) → Option ℕ
+planned_after None None = None
+planned_after None (Some at) = Some 0
+planned_after (Some epoch) wish = Some epoch
 
 abbrev pub at_new_address : Profile → (now : ℕ) → MasterState → MasterState
 at_new_address profile now master =
@@ -68,7 +70,7 @@ at_new_address profile now master =
       nodes = map (relocated profile now) master.nodes;
       reports = without_reports master.reports;
       failover = record master.failover { last_start = start_at_new_address profile master.failover.last_start };
-      wish = wish_kept master.planned master.wish;
+      planned = planned_after master.planned master.wish;
     }
 
 -- the hellos are due at once; where the address changes too, what was said of the old one is forgotten, by the profile when this Sentinel last began too, and a

@@ -286,7 +286,7 @@ later_of (Some a) (Some b) = Some (max a b)
 abbrev pub stray_down_since : Profile → Plan → Core → (m now k : ℕ) → Option ℕ
 stray_down_since Strict plan core m now k = None
 stray_down_since Redis plan core m now k =
-    if k == card_place plan core m then later_of (passed_since (node_of core m k).watch.replica_since (settings_at plan m).after_ms now)
+    if k == card_place plan core m then later_of (node_of core m k).watch.replica_since
     (silent_since plan core m now (place_followed plan m (unwrap_or (node_of core m k).info ASSUMED_INFO).master))
     else None
 

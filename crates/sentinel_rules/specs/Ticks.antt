@@ -27,7 +27,7 @@ use Rattle.sentinel_rules.specs.declared.frames.Frame.{Frame}
 use Rattle.sentinel_rules.specs.declared.frames.Frame.TheVariants.{PingTo, InfoTo, HelloTo, AskTo, PromoteTo, HandOverTo, FollowTo}
 use Rattle.sentinel_rules.specs.Contacts.{contact_asked, since_after}
 use Rattle.sentinel_rules.specs.Plans.{Plan, roster_of, me, master_count, settings_at, nodes_of, addr_at, node_name}
-use Rattle.sentinel_rules.specs.States.{Core, NodeState, PeerState, master_of, node_of, failover_of, with_master, with_failover, with_current, is_at, card_place, is_failing_over, is_tilted, is_wished, is_planned, is_unrefused, is_handed, is_node_down, is_master_down, is_odown_at}
+use Rattle.sentinel_rules.specs.States.{Core, NodeState, PeerState, master_of, node_of, failover_of, with_master, with_failover, with_current, is_at, card_place, place_followed, is_failing_over, is_tilted, is_wished, is_planned, is_unrefused, is_handed, is_node_down, is_master_down, is_odown_at}
 use Rattle.sentinel_rules.specs.Parts.{Part, quiet, puts, then_part, part_if, frame_if, changed_from, frames_from}
 use Rattle.sentinel_rules.specs.Profiles.{by_profile, may_begin, patience, with_pause, awaited_up, disobeyed, with_failed, is_passed_over, switched_to, is_switch_due, is_given_away, first_of, is_asking, is_looking, master_down_ms}
 use Rattle.sentinel_rules.specs.Votes.{book_of, with_book, mark_for}
@@ -86,6 +86,7 @@ pub record Sending : Type 0 where
   pub card_place : ℕ
   pub is_busy : Bool
   pub heir : Option ℕ
+  pub followed : Option ℕ
   pub looks : Bool
 
 abbrev pub heir_of : Core → (m : ℕ) → Option ℕ
@@ -99,6 +100,7 @@ sending_of plan core m now =
       card_place = card_place plan core m;
       is_busy = (master_of core m).odown || is_failing_over core m;
       heir = heir_of core m;
+      followed = place_followed plan m (unwrap_or (node_of core m (card_place plan core m)).info ASSUMED_INFO).master;
       looks = is_looking plan core m now;
     }
 
@@ -107,7 +109,7 @@ is_ping_due s node = is_due node.ping_sent s.now s.ping_ms
 
 abbrev pub is_info_due : Sending → (k : ℕ) → NodeState → Bool
 is_info_due s k node =
-    is_due node.info_sent s.now (info_period (is_at s.heir k || (s.looks && (k == s.card_place))) (k == s.card_place) s.is_busy node)
+    is_due node.info_sent s.now (info_period (is_at s.heir k || (s.looks && (is_at s.followed k || (k == s.card_place)))) (k == s.card_place) s.is_busy node)
 
 abbrev pub is_hello_due : Sending → NodeState → Bool
 is_hello_due s node = is_due node.hello_sent s.now HELLO_MS

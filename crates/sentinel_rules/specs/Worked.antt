@@ -667,7 +667,7 @@ pub record APlannedSwitch : Type 0 where
   pub fresh : is_wished (core_of switch_plan until_asked) 0 4200 ≡ true
   pub lapsed : is_wished (core_of switch_plan until_asked) 0 4201 ≡ false
 
--- a master that handed over without being told: it says that it is a replica of a node which says that it is a master. After two seconds and the pause, which is 0
+-- a master that handed over without being told: it says that it is a replica of a node which says that it is a master. After one second and the pause, which is 0
 -- here, a campaign begins; strict Sentinels go on. Once elected the Sentinel has the node that took over promoted, though in the campaign's epoch its pause would
 -- be a longer one
 abbrev pub handed_over_alone : List (ℕ × Event)
@@ -680,17 +680,16 @@ handed_over_alone =
     ∷ replica_at 1100 1 6381 100
     ∷ master_at 1100 2
     ∷ tick_at 2000
-    ∷ tick_at 3000
-    ∷ tick_at 3100
+    ∷ tick_at 2100
     ∷ []
 
 pub record ASwitchAtTheNodes : Type 0 where
-  pub redis : rare_from switch_plan (opened switch_plan 0) handed_over_alone ≡ (3100, asks 1 (Some id_a)) ∷ []
+  pub redis : rare_from switch_plan (opened switch_plan 0) handed_over_alone ≡ (2100, asks 1 (Some id_a)) ∷ []
   pub strict : rare_from (group_plan (kept_at_epoch 0)) (opened (group_plan (kept_at_epoch 0)) 0) handed_over_alone ≡ []
   pub chosen :
       rare_from switch_plan (core_of switch_plan handed_over_alone)
-      ((3150, Answered (SentinelAt 1) 0 (local 6379) false (Some id_a) 1) ∷ tick_at 3200 ∷ tick_at 3300 ∷ tick_at 3400 ∷ [])
-      ≡ (3400, sent (StoreAt 2) (ReplicaOf None) ∷ [])
+      ((2150, Answered (SentinelAt 1) 0 (local 6379) false (Some id_a) 1) ∷ tick_at 2200 ∷ tick_at 2300 ∷ tick_at 2400 ∷ [])
+      ≡ (2400, sent (StoreAt 2) (ReplicaOf None) ∷ [])
       ∷ []
 
 -- Replicas

@@ -35,8 +35,8 @@ pub const HOLD_MS: u64 = 11_000;
 pub const QUIET_MS: u64 = 1_000;
 
 /// For how long a master has said that it is a replica, at least, where that is taken for a switch that was made at the
-/// nodes: a hello of the other Sentinels' failover has come by then.
-pub const SWITCHED_MS: u64 = 2_000;
+/// nodes: a hello of the other Sentinels' failover has come by then, since it is sent as soon as that is known.
+pub const SWITCHED_MS: u64 = 1_000;
 
 /// For how long a switch that was asked for waits for the tick at which its campaign begins; after that it lapses.
 pub const WISH_MS: u64 = 3_000;
@@ -69,7 +69,7 @@ pub fn law_periods()
 pub fn law_waits()
     ensures hold { HOLD_MS ≡ ELECTION_MS + SPREAD_MS }
     ensures quiet { QUIET_MS ≡ 1000 }
-    ensures switched { SWITCHED_MS ≡ 2000 }
+    ensures switched { SWITCHED_MS ≡ 1000 }
     ensures wish { WISH_MS ≡ 3000 }
     ensures looked { LOOKED_MS ≡ 3000 }
     ensures switch { SWITCH_MS ≡ 5000 }

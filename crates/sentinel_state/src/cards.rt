@@ -2,7 +2,7 @@
 
 ghost use Rattle.std.specs.Prelude.{◌≡◌};
 ghost use Rattle.ballot_law.specs.Clocks.{clock};
-ghost use Rattle.sentinel_rules.specs.News.{at_same_address, at_new_address, wish_kept};
+ghost use Rattle.sentinel_rules.specs.News.{at_same_address, at_new_address, planned_after};
 ghost use Rattle.sentinel_rules.specs.Profiles.{start_at_new_address};
 ghost use Rattle.sentinel_rules.specs.States.{master_of, with_master};
 
@@ -31,12 +31,12 @@ impl Master {
         }
     }
 
-    /// A switch that was asked for, and not begun, is another one's.
-    fn forget_wish(&mut self)
-        ensures { self.new ≡ record self.old { wish = wish_kept self.old.planned self.old.wish } }
+    /// A switch that was asked for, and not begun, is another one's: its epoch is one that no campaign has.
+    fn give_wish_away(&mut self)
+        ensures { self.new ≡ record self.old { planned = planned_after self.old.planned self.old.wish } }
     {
-        if self.planned.is_none() {
-            self.wish = None;
+        if self.planned.is_none() && self.wish.is_some() {
+            self.planned = Some(0);
         }
     }
 
@@ -48,7 +48,7 @@ impl Master {
         move_all(&mut self.nodes, profile, now);
         self.reports.clear();
         self.forget_start(profile);
-        self.forget_wish();
+        self.give_wish_away();
     }
 }
 

@@ -289,8 +289,7 @@ impl Core {
                 if k != card_at {
                     return None;
                 }
-                let after_ms = plan.settings(m).after_ms;
-                let since = passed_since(self.replica_since(m, k), after_ms, clock_of(now))?;
+                let since = self.replica_since(m, k)?;
                 let info = self.info(m, k).unwrap_or(ASSUMED_INFO);
                 let followed = place_followed(plan, m, info.master);
                 later_of(since, self.silent_since(plan, m, now, followed))

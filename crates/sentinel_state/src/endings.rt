@@ -8,7 +8,7 @@ ghost use Rattle.ballot_law.specs.VotesHeard.{count_in, kept_at};
 ghost use Rattle.failover_states.specs.Calls.{recalled};
 ghost use Rattle.failover_states.specs.Failovers.{ended};
 ghost use Rattle.sentinel_rules.specs.declared.periods.TheConstants.{SWITCH_MS};
-ghost use Rattle.sentinel_rules.specs.Endings.{is_untold, is_well, is_needless, is_stale, is_given, has_answered, may_answer, answers, awaited_answers, has_won, is_split_in, is_split, is_vain, given_up, is_overtaken, taken_up, let_go};
+ghost use Rattle.sentinel_rules.specs.Endings.{is_untold, is_well, is_outvoted, is_needless, is_stale, is_given, has_answered, may_answer, answers, awaited_answers, has_won, is_split_in, is_split, is_vain, given_up, is_overtaken, taken_up, let_go};
 ghost use Rattle.sentinel_rules.specs.Plans.{master_count};
 ghost use Rattle.sentinel_rules.specs.Profiles.{marked};
 ghost use Rattle.sentinel_rules.specs.States.{failover_of, is_awaiting, is_planned, master_of};
@@ -95,11 +95,24 @@ impl Core {
             || says_replica(self.info(m, card_at)))
     }
 
-    /// Whether a failover was begun since the master was down, and it is back.
+    /// Whether more than half of the group have said since they were asked last that a master is up.
+    #[tactic(auto, unfolding(sentinel_rules::specs::Endings::is_outvoted))]
+    fn is_outvoted(&self, plan: &Plan, m: u16) -> bool
+        ensures { result ≡ is_outvoted plan.now self.now m }
+    {
+        let since = self.ask_sent(m).unwrap_or(0);
+        let up = match self.masters.get(m as usize) {
+            Some(master) => master.reports.up_since(since),
+            None => 0,
+        };
+        usize::from(plan.group_size()) / 2 < up
+    }
+
+    /// Whether a failover was begun since the master was down, and it is back, or is up for the others.
     fn is_needless(&self, plan: &Plan, m: u16, now: u64) -> bool
         ensures { result ≡ is_needless plan.now self.now m (clock now) }
     {
-        !self.is_planned(m) && self.is_well(plan, m, now)
+        !self.is_planned(m) && (self.is_well(plan, m, now) || self.is_outvoted(plan, m))
     }
 
     /// Whether a failover is of a switch that was asked for too long ago.

@@ -10,7 +10,9 @@ ghost use Rattle.sentinel_rules.specs.Ticks.{node_after, node_frames, nodes_part
 use crate::cores::Core;
 use crate::masters::Master;
 use crate::nodes::{FrameList, Plan, Sending, ping_period, send_each_node};
+use crate::switches::place_followed;
 use ballot_law::clock_of;
+use sentinel_rules::ASSUMED_INFO;
 
 impl Master {
     /// Sends each of its nodes what is due.
@@ -33,12 +35,14 @@ impl Core {
             Some(master) => master.odown,
             None => false,
         };
+        let info = self.info(m, card_at).unwrap_or(ASSUMED_INFO);
         Sending {
             now: clock_of(now),
             ping_ms: ping_period(plan, m),
             card_place: card_at,
             is_busy: odown || self.is_failing_over(m),
             heir: self.heir(m),
+            followed: place_followed(plan, m, info.master),
             looks: self.is_looking(plan, m, now),
         }
     }

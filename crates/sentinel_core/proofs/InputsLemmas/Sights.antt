@@ -7,7 +7,7 @@ use Rattle.ballot_law.specs.declared.cards.KeptMaster.{KeptMaster}
 use Rattle.ballot_law.specs.Ballots.{card_of, kept_of, no_kept}
 use Rattle.ballot_law.specs.Orders.{same_id}
 use Rattle.ballot_law.specs.OwnVotes.{Book, asked}
-use Rattle.ballot_law.specs.Watches.{down_since_of, earlier_of, passed_since}
+use Rattle.ballot_law.specs.Watches.{down_since_of, earlier_of}
 use Rattle.failover_states.specs.declared.states.Row.{Row}
 use Rattle.failover_states.specs.declared.states.Row.TheVariants.{Elected}
 use Rattle.failover_states.specs.Failovers.{Failover, ended}
@@ -155,7 +155,7 @@ seen_alike plan m now core core2 h = by_rule plan.profile
     by_rule Strict = same (λ place nodes. None)
     by_rule Redis =
         same
-        (λ place nodes. if place == place then later_of (passed_since (slice_index_or nodes place no_node).watch.replica_since (settings_at plan m).after_ms now)
+        (λ place nodes. if place == place then later_of (slice_index_or nodes place no_node).watch.replica_since
         (silent nodes (place_followed plan m (unwrap_or (slice_index_or nodes place no_node).info ASSUMED_INFO).master))
         else None)
 

@@ -87,7 +87,9 @@ pub struct Sending {
     pub is_busy: bool,
     /// The place of the replica to which the master was told to hand over.
     pub heir: Option<u16>,
-    /// Whether the node of the configuration is looked at as often as that replica.
+    /// The place of the node that the node of the configuration follows, where it does.
+    pub followed: Option<usize>,
+    /// Whether these two are looked at as often as the replica to which the master was told to hand over.
     pub looks: bool,
 }
 
@@ -102,6 +104,7 @@ impl Model for Sending {
       card_place = s.card_place;
       is_busy = s.is_busy;
       heir = s.heir;
+      followed = s.followed;
       looks = s.looks;
     } };
 
@@ -111,6 +114,7 @@ impl Model for Sending {
       card_place = s.card_place;
       is_busy = s.is_busy;
       heir = s.heir;
+      followed = s.followed;
       looks = s.looks;
     } };
 }
@@ -135,6 +139,16 @@ pub(crate) fn is_at(place: Option<u16>, k: usize) -> bool
     }
 }
 
+/// Whether this is the place of the node that is followed.
+fn is_followed(place: Option<usize>, k: usize) -> bool
+    ensures { result ≡ is_at place k }
+{
+    match place {
+        Some(place) => k == place,
+        None => false,
+    }
+}
+
 /// How often INFO is sent to a node: to the one to which the master hands over, to one that is asked soon, or to any.
 fn info_period(is_heir: bool, is_soon: bool) -> u64
     ensures { result ≡ if is_heir then HEIR_INFO_MS else (if is_soon then BUSY_INFO_MS else INFO_MS) }
@@ -155,12 +169,13 @@ impl Node {
 
     /// Whether INFO is due of the node at a place: each 10 seconds, each second of a replica whose master is down or
     /// fails over, or whose link was down, and ten times a second of the one to which the master hands over, and of a
-    /// master that may do so.
+    /// master that may do so and the node that it follows then.
     fn is_info_due(&self, sending: Sending, k: usize) -> bool
         ensures { result ≡ is_info_due sending k self.now }
     {
         let is_card = k == sending.card_place;
-        let is_looked_at = is_at(sending.heir, k) || sending.looks && is_card;
+        let is_switching = is_card || is_followed(sending.followed, k);
+        let is_looked_at = is_at(sending.heir, k) || sending.looks && is_switching;
         let is_soon = !is_card && (sending.is_busy || had_link_down(self.info));
         is_due(
             self.info_sent,
