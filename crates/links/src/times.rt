@@ -88,7 +88,7 @@ pub const TICK_MIN_MS: u64 = 50;
 /// The longest time between two ticks, in milliseconds.
 pub const TICK_MAX_MS: u64 = 100;
 
-/// The longest time between two ticks while a switch is under way that a client asked for, in milliseconds.
+/// The longest time between two ticks while an own failover is on its way to a new master, in milliseconds.
 pub const HURRY_MS: u64 = 20;
 
 /// How far apart the turns of two Sentinels are that may begin a campaign, in milliseconds, where few of them share the

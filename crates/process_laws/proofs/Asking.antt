@@ -211,7 +211,7 @@ hello_frames plan now (Ok hello) core =
     (λ h. heeded_frames plan now (master_named (roster_of plan) hello.master) hello core)
 
 closing_is : (plan : Plan) (m heir old : ℕ) (planned : Bool) → AreAimed plan (closing_frames plan m heir old planned)
-closing_is plan m heir old true = (tt, (tt, tt))
+closing_is plan m heir old true = (tt, (tt, (tt, tt)))
 closing_is plan m heir old false = tt
 
 promotion_frames : (plan : Plan) (m k now : ℕ) (info : Info) (state : FailoverState) (core : Core) → AreAimed plan (promotion plan m k now info state core).frames

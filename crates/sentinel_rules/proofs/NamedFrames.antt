@@ -137,9 +137,9 @@ hello_frames plan now (Ok hello) core =
     named_if plan (is_heeded plan hello) core (hello_heeded plan now (master_named (roster_of plan) hello.master) hello)
     (λ h. heeded_frames plan now (master_named (roster_of plan) hello.master) hello core refl)
 
-closing_is : (plan : Plan) (m heir old : ℕ) (planned : Bool) → AreNamed plan (closing_frames plan m heir old planned)
-closing_is plan m heir old true = (tt, (tt, tt))
-closing_is plan m heir old false = tt
+closing_is : (plan : Plan) (m heir old : ℕ) (planned : Bool) → m < master_count plan → AreNamed plan (closing_frames plan m heir old planned)
+closing_is plan m heir old true lt = (lt, (tt, (tt, tt)))
+closing_is plan m heir old false lt = tt
 
 promotion_frames : (plan : Plan) (m k now : ℕ) (info : Info) (state : FailoverState) (core : Core) → m < master_count plan →
     AreNamed plan (promotion plan m k now info state core).frames
@@ -152,7 +152,7 @@ promotion_frames plan m k now info (WaitPromotion epoch choice former) core lt =
     (λ h. named_append plan _ (closing_frames plan m k (card_place plan core m) (is_planned core m))
     (taken_frames plan m now (record { epoch = epoch; addr = choice.addr })
     (with_failover core m (promoted (WaitPromotion epoch choice former) (record (failover_of core m) { moment = now }))) lt)
-    (closing_is plan m k (card_place plan core m) (is_planned core m)))
+    (closing_is plan m k (card_place plan core m) (is_planned core m) lt))
 promotion_frames plan m k now info _ core lt = tt
 
 judged_frames : (plan : Plan) (m k now : ℕ) (info : Info) (core : Core) → m < master_count plan → AreNamed plan (judged plan m k now info core).frames

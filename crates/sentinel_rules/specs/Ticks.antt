@@ -31,7 +31,7 @@ use Rattle.sentinel_rules.specs.States.{Core, NodeState, PeerState, master_of, n
 use Rattle.sentinel_rules.specs.Parts.{Part, quiet, puts, then_part, part_if, frame_if, changed_from, frames_from}
 use Rattle.sentinel_rules.specs.Profiles.{by_profile, may_begin, patience, with_pause, awaited_up, disobeyed, with_failed, is_passed_over, switched_to, is_switch_due, is_given_away, first_of, is_asking, is_looking, master_down_ms}
 use Rattle.sentinel_rules.specs.Votes.{book_of, with_book, mark_for}
-use Rattle.sentinel_rules.specs.Endings.{let_go}
+use Rattle.sentinel_rules.specs.Endings.{is_contested, let_go}
 
 -- What is due
 
@@ -208,6 +208,10 @@ abbrev pub count_of : Plan → Core → (m epoch : ℕ) → ℕ
 count_of plan core m epoch =
     count_in (kept_at (master_of core m).heard) (length (master_of core m).heard) epoch (me plan)
 
+-- the votes that count in a turn
+abbrev pub counted : Plan → Core → (m now epoch : ℕ) → ℕ
+counted plan core m now epoch = if is_contested plan core m now then 0 else count_of plan core m epoch
+
 abbrev pub known_of : Plan → Core → (m now : ℕ) → (odown : Bool) → Known
 known_of plan core m now odown =
     record {
@@ -220,7 +224,7 @@ known_of plan core m now odown =
       me = me plan;
       need = need (roster_of plan) m;
       pick = pick_of plan core m (campaign_epoch core m);
-      count = count_of plan core m (campaign_epoch core m);
+      count = counted plan core m now (campaign_epoch core m);
       best = best_of plan core m now;
       card_place = card_place plan core m;
       down = at_places (is_node_down plan core m now) 0 (length (nodes_of plan m));
