@@ -330,7 +330,7 @@ promotion_keeps plan m k now info (WaitPromotion epoch choice former) core e s =
 
     low : m < master_count plan → epoch ≤ core.kept.current
     low lt = subst (λ (st : FailoverState). IfSome (epoch_of st) (λ epoch. epoch ≤ core.kept.current)) e (s.each m lt).epoch
-promotion_keeps plan m k now info _ core e s = keeps_quiet plan 3 core s
+promotion_keeps plan m k now info _ core e s = keeps_quiet plan 4 core s
 
 pub reconfigured_sound : (plan : Plan) (kept : Kept) (m : ℕ) (state : FailoverState) (f : Failover) (k : ℕ) → IsSoundFailover plan kept m f →
     IsSoundFailover plan kept m (reconfigured state f k)
