@@ -31,7 +31,7 @@ use Rattle.node_texts.specs.declared.faults.TextFault.{TextFault}
 use Rattle.node_texts.specs.Hellos.{hello_of}
 use Rattle.node_texts.proofs.HelloBack.{hello_is}
 use Rattle.ballot_law.proofs.CountedVotes.{both}
-use Rattle.sentinel_rules.specs.declared.frames.Frame.TheVariants.{FollowTo, NoteOf}
+use Rattle.sentinel_rules.specs.declared.frames.Frame.TheVariants.{HelloTo, PromoteTo, FollowTo, NoteOf}
 use Rattle.ballot_law.specs.declared.node_places.NodePlace.{NodePlace}
 use Rattle.sentinel_rules.specs.declared.frames.Frame.{Frame}
 use Rattle.sentinel_rules.specs.Plans.{Plan, roster_of, group_size, master_count, settings_at, nodes_of, node_name, node_named}
@@ -296,8 +296,14 @@ refusal_sound plan node core s =
 -- INFO
 
 closing_few : (plan : Plan) (m heir old : ℕ) (planned : Bool) → length (closing_frames plan m heir old planned) ≤ 3
-closing_few plan m heir old true = omega arith
-closing_few plan m heir old false = omega arith
+closing_few plan m heir old planned = by_tests (is_redis plan.profile) planned
+  where
+    by_tests : (hello orders : Bool) → length (frame_if hello (HelloTo (node_name plan m heir) m)
+        ++ (frame_if orders (PromoteTo (node_name plan m heir)) ++ frame_if orders (FollowTo (node_name plan m old) m))) ≤ 3
+    by_tests true true = omega arith
+    by_tests true false = omega arith
+    by_tests false true = omega arith
+    by_tests false false = omega arith
 
 keeps_frames : (plan : Plan) (room more : ℕ) (part : Part) (frames : List Frame) → length frames ≤ more → KeepsSound plan room part → KeepsSound plan (room + more) (with_frames part frames)
 keeps_frames plan room more part frames few f =

@@ -261,11 +261,11 @@ with_info now info node =
       role_since = role_since_after now info.role node.info node.role_since;
     }
 
--- after a switch that was asked for the clients of both nodes are sent away, so that they ask for the master anew: these orders change nothing else at the nodes.
--- Those who listen to hellos are among them, so the new master publishes one first
+-- In the profile of Redis the new master publishes a hello at once, so that the others needn't wait for the next tick. After a switch that was asked for the clients
+-- of both nodes are sent away then, so that they ask for the master anew: these orders change nothing else at the nodes
 abbrev pub closing_frames : Plan → (m heir old : ℕ) → (planned : Bool) → List Frame
 closing_frames plan m heir old planned =
-    frame_if planned (HelloTo (node_name plan m heir) m)
+    frame_if (is_redis plan.profile) (HelloTo (node_name plan m heir) m)
     ++ (frame_if planned (PromoteTo (node_name plan m heir)) ++ frame_if planned (FollowTo (node_name plan m old) m))
 
 -- what is put out behind a part
