@@ -37,7 +37,7 @@ const LATER_MAX: usize = 4_096;
 
 /// When a Sentinel ticks, and what its ticks showed. One thread has them, with its end of the connections.
 /// `stood_still` is whether it stood still since its last ticks, and `later` has what it hears only after the next
-/// ones, oldest first; `has_ticked` is whether these were since. `epoch` is the current one, as far as it was looked at.
+/// ones, oldest first; `has_ticked` is whether these were since. `epoch` is the current one when it was last looked at.
 #[derive(Drop)]
 pub struct TickLoop<J: Which> {
     far: SentinelEnd<J>,
@@ -173,8 +173,8 @@ impl<J: Which> TickLoop<J> {
         }
     }
 
-    /// Has the ticks come at once after a vote, and within `HURRY_MS` while a failover of its own is on its way; else it
-    /// holds them back where a campaign has come near, or where another Sentinel campaigns.
+    /// Has the ticks come at once after a vote, and within `HURRY_MS` while a failover of its own is on its way. Else
+    /// it holds them back where a campaign has come near, or where another Sentinel campaigns.
     fn pace_ticks<S: ConfStore, R: Clock>(&mut self, turns: &mut Turns<'_, R, J, S>, voted: bool) {
         let number = turns.seat.take_nearness();
         let epoch = turns.member.known_epoch().unwrap_or(0);
