@@ -232,7 +232,8 @@ class Lanes:
 
     def __init__(self, rt, tasks):
         number = os.environ.get("RT_JOBS", "")
-        self.processors, self.memory = int(number) if number.isdigit() and int(number) else rt.processors(), 0.85 * rt.free()
+        self.rt, self.memory = rt, 0.85 * rt.free()
+        self.processors = int(number) if number.isdigit() and int(number) else rt.processors()
         self.tasks, self.chains = tasks, chains_of(tasks)
         self.left, self.running, self.given = sorted(tasks, key=lambda it: -self.chains[it]), {}, {}
         self.ended = queue.SimpleQueue()
@@ -260,6 +261,8 @@ class Lanes:
 
     def begin(self, key, most, is_first):
         """Begins a task with so many jobs at most, if there is memory for it, or nothing else runs."""
+        # (what others gave back since the first look counts as well)
+        self.memory = max(self.memory, 0.85 * self.rt.free())
         room = self.memory - sum(needs for _, needs in self.running.values())
         needs = {jobs: self.tasks[key][2] * (0.5 + 0.125 * (jobs - 1)) for jobs in range(1, most + 1)}
         jobs = max((it for it in needs if needs[it] <= room), default=0 if self.running else 1)
