@@ -14,6 +14,7 @@ import importlib.machinery
 import importlib.util
 import json
 import os
+import pathlib
 import queue
 import re
 import shutil
@@ -283,33 +284,15 @@ class Lanes:
         self.ended.put((key, given, error))
 
 
-def sum_of_crate(folder):
-    """The sum of a crate's sources, definitions and proofs."""
-    total = hashlib.sha256()
-    for at, folders, names in os.walk(folder):
-        folders[:] = sorted(it for it in folders if it not in ("out", "must-fail", "wrong-bodies"))
-        for name in sorted(it for it in names if it.endswith((".rt", ".antt"))):
-            with open(f"{at}/{name}", "rb") as data:
-                total.update(os.path.relpath(f"{at}/{name}", folder).encode() + b" " + data.read())
-    return total.digest()
-
-
 def over_built(words, crate, trees):
-    """The words of a check that takes libraries as source, with each that stands in one of these trees, of the same files as here, as it was built there."""
-    sums = {it.name: sum_of_crate(it.folder) for it in crate.below()}
-
-    def rlib(tree, it):
-        return f"{tree}/crates/{it.name}/out/rlib/{it.name}.rlib"
-
-    def stands(tree, it):
-        return os.path.exists(rlib(tree, it)) and sum_of_crate(f"{tree}/crates/{it.name}") == sums[it.name]
-
+    """The words of a check that takes libraries as source, with each that stands in one of these trees, made of the same files as here over the same
+    libraries, as it was built there."""
     found = {}
-    for tree in trees:
-        good = {it.name for it in crate.below() if stands(tree, it)}
-        for it in crate.below():
-            if it.name not in found and good.issuperset([it.name, *[low.name for low in it.below()]]):
-                found[it.name] = rlib(tree, it)
+    for it in crate.below():
+        for tree in trees:
+            made = f"{tree}/crates/{it.name}/out/rlib"
+            if os.path.exists(f"{made}/stamp") and pathlib.Path(f"{made}/stamp").read_text(encoding="utf-8") == it.stamp():
+                found[it.name] = f"{made}/{it.name}.rlib"
     new, rest = [], iter(words)
     for word in rest:
         if word != "--lib":
