@@ -106,12 +106,6 @@ def kept(kind):
     return next(iter(glob.glob(f"{OUT}/{kind}/{place_of_sources()}*/{PROGRAM}")), None)
 
 
-def has_sanitizer(program):
-    """Whether the program was built with an address sanitizer."""
-    with open(program, "rb") as data:
-        return b"__asan_init" in data.read()
-
-
 def git(*words):
     """What git says in the repository, or nothing where it is none, or git isn't there."""
     if not shutil.which("git"):
