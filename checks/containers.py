@@ -59,10 +59,12 @@ def debian_in(room, packages):
 
 
 def enter(root, packages):
-    """Starts the check anew, in namespaces where it may make networks and mount; with `--root` and the path of a Debian, where none is named."""
+    """Starts the check anew, in namespaces where it may make networks and mount, and with which all that it started ends; with `--root` and the path of a Debian, where none is named."""
     lacks("systemd-nspawn", "debootstrap")
     if disks.INSIDE not in os.environ:
-        own = ["unshare", "--mount", "--net", sys.executable, os.path.realpath(sys.argv[0]), *sys.argv[1:]]
+        signal.signal(signal.SIGTERM, lambda *_: sys.exit("stopped"))
+        spaces = ["--mount", "--net", "--pid", "--fork", "--mount-proc", "--kill-child"]
+        own = ["unshare", *spaces, sys.executable, os.path.realpath(sys.argv[0]), *sys.argv[1:]]
         how = {"env": {**os.environ, disks.INSIDE: "1"}, "check": False}
         if root:
             sys.exit(subprocess.run(own, **how).returncode)
