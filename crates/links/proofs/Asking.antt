@@ -22,7 +22,7 @@ shut_at : (stage : Stage) → is_open stage ≡ false → stage ≢ Open
 shut_at stage shut same = false≢true (sym shut ∙ ap is_open same)
 
 -- where a message by itself changes nothing while it isn't open, and else joins what is unsent
-asked_alone : (now : ℕ) (body : Body) (s t : State) → IsOwn s.target.node body → (s.schedule.stage ≢ Open → t ≡ s) → (s.schedule.stage ≡ Open → t ≡ asked_at now body s)
+asked_alone : (now : ℕ) (body : Body) (s t : State) → IsOwn s.target.node body → (s.schedule.stage ≢ Open → t ≡ s) → (s.schedule.stage ≡ Open → t ≡ asked_at now [] body s)
     → AsksByItself s.target.node s.talk t.talk
 asked_alone now body s t own shut asked = by_stage s.schedule.stage refl where
   by_stage : (stage : Stage) → s.schedule.stage ≡ stage → AsksByItself s.target.node s.talk t.talk
@@ -31,7 +31,7 @@ asked_alone now body s t own shut asked = by_stage s.schedule.stage refl where
   by_stage Closed is = ([], tt, ap (λ (x : State). x.talk) (shut (λ same. shut_at Closed refl (sym is ∙ same))))
 
 pub asks_one : (now : ℕ) (body : Body) (s t : State) (result : Result (Unit {0}) LinkFault) → (s.schedule.stage ≢ Open → t ≡ s)
-    → OnOk result (s.schedule.stage ≡ Open → t ≡ asked_at now body s) → IsOwn s.target.node body → OnOk result (AsksByItself s.target.node s.talk t.talk)
+    → OnOk result (s.schedule.stage ≡ Open → t ≡ asked_at now [] body s) → IsOwn s.target.node body → OnOk result (AsksByItself s.target.node s.talk t.talk)
 asks_one now body s t (Ok x) shut asked own = asked_alone now body s t own shut asked
 asks_one now body s t (Err fault) shut asked own = tt
 

@@ -16,7 +16,7 @@ use Rattle.links.specs.declared.sessions.questions.Question.{Question}
 use Rattle.links.specs.declared.sessions.questions.Question.TheVariants as asks
 use Rattle.links.specs.declared.sessions.replies.Vote.{Vote}
 use Rattle.resp2.specs.Long.LongValues.{told_value}
-use Rattle.links.specs.Sessions.Links.{next_asked, heard_of, ping_heard, info_heard, answered, ask_heard, hand_over_heard, plain_heard, follow_heard, exec_in, exec_heard, row_in, told_row, row_heard, named, id_heard, vote_of, hello_in, hello_in_list, hello_heard, is_confirmed, begins_message, list_of, listed, Tells}
+use Rattle.links.specs.Sessions.Links.{next_asked, heard_of, follow_up, located, tells_place, ping_heard, info_heard, answered, ask_heard, hand_over_heard, plain_heard, follow_heard, exec_in, exec_heard, row_in, told_row, row_heard, named, id_heard, vote_of, hello_in, hello_in_list, hello_heard, is_confirmed, begins_message, list_of, listed, Tells}
 use Rattle.links.specs.declared.target.Target.{Target}
 use Rattle.links.specs.NodeLinks.{IsHeardOn, IsAsked}
 
@@ -178,6 +178,7 @@ module _ (target : Target) where
   value_on (asks.Exec promotes) f may = exec_on promotes f
   value_on asks.Abort f may = tt
   value_on asks.Row f may = row_on f
+  value_on (asks.Locate master addr) f may = plain_on (asks.Locate master addr) f
   value_on asks.Order f may = plain_on asks.Order f
   value_on (asks.Identity id) f may = id_on id f
   value_on asks.Hello f may = hello_on may f
@@ -192,15 +193,51 @@ module _ (target : Target) where
   asked_awaits (asks.Exec promotes) is = tt
   asked_awaits asks.Abort is = tt
   asked_awaits asks.Row is = tt
+  asked_awaits (asks.Locate master addr) is = tt
   asked_awaits asks.Order is = tt
   asked_awaits (asks.Identity id) is = tt
   asked_awaits asks.Hello is = absurd is
 
-  -- what is awaited next, and what is asked then
+  -- what is asked yet is asked, and is no more than what was answered
+  located_asked : (there : Bool) (master : ℕ) (addr : Addr) → IsAsked (located there master addr)
+  located_asked true master addr = tt
+  located_asked false master addr = tt
+
+  follow_asked : (q : Question) (f : Frame) → AllByRecursion IsAsked (follow_up q f)
+  follow_asked asks.Ping f = tt
+  follow_asked asks.Info f = tt
+  follow_asked (asks.Ask master addr) f = tt
+  follow_asked asks.HandOver f = tt
+  follow_asked asks.Publish f = tt
+  follow_asked (asks.Follow promotes) f = tt
+  follow_asked (asks.Exec promotes) f = tt
+  follow_asked asks.Abort f = tt
+  follow_asked asks.Row f = tt
+  follow_asked (asks.Locate master addr) f = (located_asked (tells_place addr f) master addr, tt)
+  follow_asked asks.Order f = tt
+  follow_asked (asks.Identity id) f = tt
+  follow_asked asks.Hello f = tt
+
+  follow_few : (q : Question) (f : Frame) (others : List Question) → length (follow_up q f ++ others) ≤ length (q ∷ others)
+  follow_few asks.Ping f others = omega arith
+  follow_few asks.Info f others = omega arith
+  follow_few (asks.Ask master addr) f others = omega arith
+  follow_few asks.HandOver f others = omega arith
+  follow_few asks.Publish f others = omega arith
+  follow_few (asks.Follow promotes) f others = omega arith
+  follow_few (asks.Exec promotes) f others = omega arith
+  follow_few asks.Abort f others = omega arith
+  follow_few asks.Row f others = omega arith
+  follow_few (asks.Locate master addr) f others = omega arith
+  follow_few asks.Order f others = omega arith
+  follow_few (asks.Identity id) f others = omega arith
+  follow_few asks.Hello f others = omega arith
+
+  -- what is awaited next, and what is asked then, whatever comes
   record IsNext (asked : List Question) (question : Question) (others : List Question) : Type 0 where
     pub awaits : MayAwait question
     pub asked_still : AllByRecursion IsAsked others
-    pub few : length others ≤ length asked
+    pub few : (f : Frame) → length (follow_up question f ++ others) ≤ length asked
 
   next_on : (listens : Bool) (asked : List Question) (question : Question) (others : List Question) → listens ≡ target.listens → AllByRecursion IsAsked asked
       → next_asked listens asked ≡ Some (question, others) → IsNext asked question others
@@ -211,7 +248,7 @@ module _ (target : Target) where
       record {
         awaits = subst MayAwait first (asked_awaits q all.0);
         asked_still = subst (AllByRecursion IsAsked) rest all.1;
-        few = subst (λ (l : List Question). length l ≤ length (q ∷ asked)) rest (omega arith);
+        few = λ f. subst (λ (x : Question × List Question). length (follow_up x.0 f ++ x.1) ≤ length (q ∷ asked)) both (follow_few q f asked);
       }
   next_on true [] question others same all next =
       let both : ◌≡◌ {A = Question × List Question} (asks.Hello, []) (question, others) = cc in
@@ -220,7 +257,7 @@ module _ (target : Target) where
       record {
         awaits = subst MayAwait first (sym same);
         asked_still = subst (AllByRecursion IsAsked) rest tt;
-        few = subst (λ (l : List Question). length l ≤ 0) rest (omega arith);
+        few = λ f. subst (λ (x : Question × List Question). length (follow_up x.0 f ++ x.1) ≤ 0) both (omega arith);
       }
   next_on false [] question others same all next = absurd (let no : ⊥ = cc in no)
 
@@ -239,9 +276,10 @@ module _ (target : Target) where
   }
   told asked (v ∷ values) events left all t =
       let next = next_on target.listens asked t.0 t.1 refl all t.4 in
-      let more = told t.1 values t.3 left next.asked_still t.7 in
+      let follow = follow_up t.0 (told_value v) in
+      let more = told (follow ++ t.1) values t.3 left (all_append IsAsked follow t.1 (follow_asked t.0 (told_value v)) next.asked_still) t.7 in
       let one : AllByRecursion (IsHeardOn target) (listed t.2) = subst MayTell t.5 (value_on t.0 (told_value v) next.awaits) in
-      let fewer = next.few in
+      let fewer = next.few (told_value v) in
       let fewest = more.few in
       record {
         heard = subst (AllByRecursion (IsHeardOn target)) (sym t.6) (all_append (IsHeardOn target) (listed t.2) t.3 one more.heard);

@@ -128,13 +128,13 @@ kept_more target before bytes questions kept asked short few = record {
   bounded = record { unsent = short; asked = few; kept = kept.bounded.kept };
 }
 
-pub kept_asked : (target : Target) (body : Body) (before talk : Link) → IsKept target before
-    → talk ≡ record before { unsent = before.unsent ++ bytes_for body; asked = before.asked ++ questions_for body }
+pub kept_asked : (target : Target) (name : List ℕ) (body : Body) (before talk : Link) → IsKept target before
+    → talk ≡ record before { unsent = before.unsent ++ bytes_for name body; asked = before.asked ++ questions_for body }
     → (length talk.unsent ≤ UNSENT_MAX) × (length talk.asked ≤ ASKED_MAX) → IsKept target talk
-kept_asked target body before talk kept is bounds =
+kept_asked target name body before talk kept is bounds =
     let short = subst (λ (t : Link). length t.unsent ≤ UNSENT_MAX) is bounds.0 in
     let few = subst (λ (t : Link). length t.asked ≤ ASKED_MAX) is bounds.1 in
-    subst (IsKept target) (sym is) (kept_more target before (bytes_for body) (questions_for body) kept (questions_asked body) short few)
+    subst (IsKept target) (sym is) (kept_more target before (bytes_for name body) (questions_for body) kept (questions_asked body) short few)
 
 pub kept_row : (target : Target) (name : List ℕ) (before talk : Link) → IsKept target before
     → talk ≡ record before { unsent = before.unsent ++ row_bytes name; asked = before.asked ++ asks.Row ∷ [] }

@@ -44,12 +44,12 @@ opening_at now login state = record {
   };
 }
 
--- a message joins what is unsent; where no answer was awaited, the silence that counts begins with it
-abbrev pub asked_at : ℕ → Body → State → State
-asked_at now body state = record {
+-- a message joins what is unsent; where no answer was awaited, the silence that counts begins with it. The name is that of the master that a question is about
+abbrev pub asked_at : ℕ → (name : List ℕ) → Body → State → State
+asked_at now name body state = record {
   target = state.target;
   schedule = excused now state.talk.asked state.schedule;
-  talk = record state.talk { unsent = state.talk.unsent ++ bytes_for body; asked = state.talk.asked ++ questions_for body };
+  talk = record state.talk { unsent = state.talk.unsent ++ bytes_for name body; asked = state.talk.asked ++ questions_for body };
 }
 
 -- the question for the row of a master joins what is unsent, where no answer was awaited: the next value answers it
@@ -81,7 +81,7 @@ IsOwn node body = ⊥
 -- messages join what is unsent, in their order
 abbrev pub put_all : List Body → Link → Link
 put_all [] talk = talk
-put_all (body ∷ bodies) talk = put_all bodies (record talk { unsent = talk.unsent ++ bytes_for body; asked = talk.asked ++ questions_for body })
+put_all (body ∷ bodies) talk = put_all bodies (record talk { unsent = talk.unsent ++ bytes_for [] body; asked = talk.asked ++ questions_for body })
 
 -- what it asks this node by itself, and nothing else, joins what is unsent
 abbrev pub AsksByItself : NodeName → (old new : Link) → Type 0

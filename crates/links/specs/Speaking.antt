@@ -2,7 +2,7 @@
 use Rattle.std.specs.Prelude.{Bool, true, false, List, [], ◌∷◌, ◌++◌, Option, Some, None, ℕ, codes}
 use Rattle.ballot_law.specs.declared.addresses.RunId.{RunId}
 use Rattle.ballot_law.specs.declared.messages.Body.{Body}
-use Rattle.ballot_law.specs.declared.messages.Body.TheVariants.{ReplicaOf}
+use Rattle.ballot_law.specs.declared.messages.Body.TheVariants.{Ask, ReplicaOf}
 use Rattle.node_texts.specs.Messages.MessageTexts.{message_bytes, words_frame, hello_channel}
 use Rattle.resp2.specs.Framing.Frame.{spelling}
 use Rattle.links.specs.declared.sessions.questions.Question.{Question}
@@ -28,20 +28,23 @@ after_order =
 abbrev pub abort_bytes : List ℕ
 abort_bytes = command_bytes (codes "FAILOVER" ∷ codes "ABORT" ∷ [])
 
--- the bytes that go over the connection for a message
-abbrev pub bytes_for : Body → List ℕ
-bytes_for (ReplicaOf to) = abort_bytes ++ (command_bytes (codes "MULTI" ∷ []) ++ (message_bytes (ReplicaOf to) ++ after_order))
-bytes_for body = message_bytes body
-
--- what their answers will be about
-abbrev pub questions_for : Body → List Question
-questions_for (ReplicaOf to) =
-    asks.Abort ∷ asks.Order ∷ asks.Follow (is_nobody to) ∷ asks.Order ∷ asks.Order ∷ asks.Order ∷ asks.Exec (is_nobody to) ∷ []
-questions_for body = question_of body ∷ []
-
 -- the question for the row of a master, by its name
 abbrev pub row_bytes : List ℕ → List ℕ
 row_bytes name = command_bytes (codes "SENTINEL" ∷ codes "MASTER" ∷ name ∷ [])
+
+-- The bytes that go over the connection for a message. The question whether a master is down names an address alone, so the other Sentinel is asked before it at which
+-- address it has the master of this name
+abbrev pub bytes_for : (name : List ℕ) → Body → List ℕ
+bytes_for name (Ask master addr epoch candidate) = row_bytes name ++ message_bytes (Ask master addr epoch candidate)
+bytes_for name (ReplicaOf to) = abort_bytes ++ (command_bytes (codes "MULTI" ∷ []) ++ (message_bytes (ReplicaOf to) ++ after_order))
+bytes_for name body = message_bytes body
+
+-- what their answers will be about
+abbrev pub questions_for : Body → List Question
+questions_for (Ask master addr epoch candidate) = asks.Locate master addr ∷ []
+questions_for (ReplicaOf to) =
+    asks.Abort ∷ asks.Order ∷ asks.Follow (is_nobody to) ∷ asks.Order ∷ asks.Order ∷ asks.Order ∷ asks.Exec (is_nobody to) ∷ []
+questions_for body = question_of body ∷ []
 
 -- A replica acknowledges at once what it has of its master's stream. REPLCONF is answered with nothing, or with an error where the client may not send it; so answers
 -- are off around it, and one comes, to the last command

@@ -1,6 +1,6 @@
 //! A connection of a Sentinel to a node, without its socket.
 
-ghost use Rattle.std.specs.Prelude.{◌≡◌, ◌≢◌, ◌≤◌, ◌<◌, ◌↔◌, ◌++◌, ◌-◌, ℕ, true, false, Some, None, List, length, drop, OnOk, OnErr, IfOk, IsTrue, IsFalse};
+ghost use Rattle.std.specs.Prelude.{◌≡◌, ◌≢◌, ◌≤◌, ◌<◌, ◌↔◌, ◌++◌, ◌-◌, ℕ, true, false, Some, None, List, [], length, drop, OnOk, OnErr, IfOk, IsTrue, IsFalse};
 ghost use Rattle.std.specs.List.{AllByRecursion};
 ghost use Rattle.ballot_law.specs.declared.events.Event.{Event};
 ghost use Rattle.ballot_law.specs.declared.messages.NodeName.TheVariants.{StoreAt};
@@ -211,12 +211,14 @@ impl NodeLink {
         self.session.sent(n);
     }
 
-    /// Puts out a message where it is open; else the message is lost. A fault closes it.
+    /// Puts out a message where it is open; else the message is lost. The name is that of the master that a question is
+    /// about: its answer tells something only if the other Sentinel has that master at the question's address, which it
+    /// is asked before. A fault closes it.
     #[tactic(auto, using(crate::proofs::Keeping::kept_anew, crate::proofs::Keeping::excused_waiting, crate::proofs::Keeping::excused_alone))]
-    pub fn ask(&mut self, message: &Message, now: u64) -> Result<(), LinkFault>
+    pub fn ask(&mut self, message: &Message, name: &[u8], now: u64) -> Result<(), LinkFault>
         requires { IsWritable message.now.body }
         ensures shut { self.old.schedule.stage ≢ Open → self.new ≡ self.old }
-        ensures ok { OnOk result (self.old.schedule.stage ≡ Open → self.new ≡ asked_at now message.now.body self.old) }
+        ensures ok { OnOk result (self.old.schedule.stage ≡ Open → self.new ≡ asked_at now name.now message.now.body self.old) }
         ensures err { OnErr result (self.new ≡ closed_at now self.old) }
         ensures target { self.new.target ≡ self.old.target }
     {
@@ -224,7 +226,7 @@ impl NodeLink {
             return Ok(());
         }
         let waits = self.session.is_waiting();
-        match put_message(&mut self.session, message) {
+        match put_message(&mut self.session, message, name) {
             Ok(()) => {
                 if !waits {
                     self.schedule.excuse(now);
@@ -278,7 +280,7 @@ impl NodeLink {
     fn ask_alone(&mut self, body: Body, now: u64) -> Result<(), LinkFault>
         requires { IsWritable body }
         ensures shut { self.old.schedule.stage ≢ Open → self.new ≡ self.old }
-        ensures ok { OnOk result (self.old.schedule.stage ≡ Open → self.new ≡ asked_at now body self.old) }
+        ensures ok { OnOk result (self.old.schedule.stage ≡ Open → self.new ≡ asked_at now [] body self.old) }
         ensures alone { IsOwn self.old.target.node body → OnOk result (AsksByItself self.old.target.node self.old.talk self.new.talk) }
         ensures err { OnErr result (self.new ≡ closed_at now self.old) }
         ensures target { self.new.target ≡ self.old.target }
@@ -289,7 +291,7 @@ impl NodeLink {
             target: node,
             body,
         };
-        self.ask(&message, now)
+        self.ask(&message, &[], now)
     }
 
     /// Sends a PING, where it is open and takes messages. A fault closes it.
@@ -298,7 +300,7 @@ impl NodeLink {
         ensures pinged { OnOk result (self.new.schedule.pinged ≡ Some now) }
         ensures listens { self.old.target.listens ≡ true → self.new.talk ≡ self.old.talk }
         ensures asked { OnOk result (self.old.target.listens ≡ false → self.old.schedule.stage ≡ Open
-            → self.new.talk ≡ (asked_at now Body.Ping self.old).talk) }
+            → self.new.talk ≡ (asked_at now [] Body.Ping self.old).talk) }
         ensures alone { OnOk result (AsksByItself self.old.target.node self.old.talk self.new.talk) }
         ensures err { OnErr result (self.new.talk ≡ fresh self.old.target) }
         ensures target { self.new.target ≡ self.old.target }
@@ -319,7 +321,7 @@ impl NodeLink {
         ensures listens { self.old.target.listens ≡ true → self.new ≡ self.old }
         ensures shut { self.old.schedule.stage ≢ Open → self.new ≡ self.old }
         ensures asked { OnOk result (self.old.target.listens ≡ false → self.old.schedule.stage ≡ Open
-            → (number : ℕ) → self.old.target.node ≡ StoreAt number → self.new ≡ asked_at now Body.InfoAsk self.old) }
+            → (number : ℕ) → self.old.target.node ≡ StoreAt number → self.new ≡ asked_at now [] Body.InfoAsk self.old) }
         ensures alone { OnOk result (AsksByItself self.old.target.node self.old.talk self.new.talk) }
         ensures err { OnErr result (self.new ≡ closed_at now self.old) }
         ensures target { self.new.target ≡ self.old.target }

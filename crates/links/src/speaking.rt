@@ -71,16 +71,20 @@ fn put_order(session: &mut LinkSession, message: &Message, promotes: bool) -> Re
     put_transaction(session, message, promotes)
 }
 
-/// Puts out what goes over the connection for a message.
-fn put_words(session: &mut LinkSession, message: &Message) -> Result<(), LinkFault>
+/// Puts out what goes over the connection for a message; a question is about the master with this name.
+fn put_words(session: &mut LinkSession, message: &Message, name: &[u8]) -> Result<(), LinkFault>
     requires { IsWritable message.now.body }
     ensures ok { OnOk result (session.new ≡ record session.old {
-      unsent = session.old.unsent ++ bytes_for message.now.body;
+      unsent = session.old.unsent ++ bytes_for name.now message.now.body;
       asked = session.old.asked ++ questions_for message.now.body;
     }) }
     ensures few { OnOk result (length session.new.asked ≤ ASKED_MAX) }
 {
     match &message.body {
+        Body::Ask { master, addr, .. } => {
+            let (master, addr) = (*master, *addr);
+            session.ask_behind_row(name, message, Question::Locate { master, addr })
+        }
         Body::ReplicaOf(to) => put_order(session, message, is_nobody(to)),
         _ => session.ask(message),
     }
@@ -98,19 +102,24 @@ fn is_short(session: &LinkSession) -> Result<(), LinkFault>
 }
 
 /// Puts out a message: an order to follow a master goes with CONFIG REWRITE and CLIENT KILL of normal clients and of
-/// subscribers, in one MULTI, after FAILOVER ABORT.
+/// subscribers, in one MULTI, after FAILOVER ABORT, and the question whether a master is down after that for the row of
+/// the master with this name.
 ///
 /// `Full` where too much is unsent with it, or too many answers are awaited, and `NoMemory`: all or a part of it may
 /// have been put out then, so the caller gives the connection up.
-pub(crate) fn put_message(session: &mut LinkSession, message: &Message) -> Result<(), LinkFault>
+pub(crate) fn put_message(
+    session: &mut LinkSession,
+    message: &Message,
+    name: &[u8],
+) -> Result<(), LinkFault>
     requires { IsWritable message.now.body }
     ensures ok { OnOk result (session.new ≡ record session.old {
-      unsent = session.old.unsent ++ bytes_for message.now.body;
+      unsent = session.old.unsent ++ bytes_for name.now message.now.body;
       asked = session.old.asked ++ questions_for message.now.body;
     }) }
     ensures bounded { OnOk result ((length session.new.unsent ≤ UNSENT_MAX) × (length session.new.asked ≤ ASKED_MAX)) }
 {
-    put_words(session, message)?;
+    put_words(session, message, name)?;
     is_short(session)
 }
 

@@ -1,5 +1,5 @@
 -- Processes that are connected are what the laws of processes ask.
-use Rattle.std.proofs.Common.{◌≡◌, ℕ, zero, suc, ◌<◌, ◌≤◌, Bool, true, false, true≢false, cond, List, [], ◌∷◌, ◌++◌, map, length, append_assoc, refl, sym, ap, ◌∙◌, subst, inl, inr, ⊎_elim, arith}
+use Rattle.std.proofs.Common.{◌≡◌, ℕ, zero, suc, ◌<◌, ◌≤◌, Bool, true, false, true≢false, cond, List, [], ◌∷◌, ◌++◌, map, length, append_assoc, Some, refl, sym, ap, ◌∙◌, subst, inl, inr, ⊎_elim, arith}
 use Rattle.std.specs.Prelude.{◌⊎◌, Contains, slice_index_or}
 use Rattle.std.specs.List.{AllByRecursion}
 use Rattle.std.proofs.lemmas.List.{same_from_push}
@@ -23,6 +23,7 @@ use Rattle.ballot_law.specs.Rosters.{Roster, size, id_of, HasDistinctIds}
 use Rattle.ballot_law.specs.Worlds.{World as Group}
 use Rattle.links.specs.declared.sessions.questions.Question.{Question}
 use Rattle.links.specs.Sessions.Links.{Tells as LinkTells}
+use Rattle.links.specs.Speaking.{login_questions, id_bytes, id_questions}
 use Rattle.sentinel_cell.specs.declared.entry.Entry.{Entry}
 use Rattle.sentinel_cell.specs.declared.entry.Outcome.{Outcome}
 use Rattle.sentinel_cell.specs.declared.entry.Outcome.TheVariants.{Stored, Refused, Halted}
@@ -33,7 +34,7 @@ use Rattle.sentinel_cell.proofs.Keeping.{kept_true, kept_same}
 use Rattle.sentinel_rules.specs.Plans.{Plan, roster_of, me, group_size}
 use Rattle.process_laws.specs.Actions.{Action, Opened, Took, Told, Process, IsOpened, IsHeard, file_after, sent_by, action_after, actions_after, all_sent, all_said, all_elected, AreActions, at_first, FilesNeverFall, StoredIsFiled}
 use Rattle.process_laws.specs.Connections.{IsAskable, IsDelivered, port_answer}
-use Rattle.process_laws.specs.Connected.{Deed, Takes, Tells, Life, history_of, filed, file_of, IsOfMasters, AreLives, action_of, actions_of, LinkWord, Says, AsksRow, IsAskableWord, IsAboutOne, IsAnsweredRow, TellsOfRunIds, HasAnswered, IsCarried, IsHeardFrom, MayTake, ConnectedProcessesAreSafe}
+use Rattle.process_laws.specs.Connected.{Deed, Takes, Tells, Life, history_of, filed, file_of, IsOfMasters, AreLives, action_of, actions_of, LinkWord, Says, AsksRow, AsksThere, IsAboutOne, IsAnsweredRow, TellsOfRunIds, HasAnswered, IsCarried, IsHeardFrom, MayTake, ConnectedProcessesAreSafe}
 use Rattle.process_laws.specs.Differing.{HaveSameIds}
 use Rattle.process_laws.specs.HeardAnswers.{IsOfOneMaster}
 use Rattle.process_laws.specs.OwnActions.{AreOwnActions, HearWell}
@@ -42,7 +43,7 @@ use Rattle.process_laws.proofs.Openings.{IsLinked, links_deliver}
 use Rattle.process_laws.proofs.OwnActions.{own_actions_are_actions}
 use Rattle.process_laws.proofs.Safety.{after_both, processes_are_safe}
 use Rattle.process_laws.proofs.SharedConnections.{AreDeliveredSo, IsKeptSo, heard_kept}
-use Rattle.process_laws.proofs.Words.{RowIsOne}
+use Rattle.process_laws.proofs.Words.{Step, Puts, Unheard, IsAskableStep, RowIsOne, steps_of, steps_bytes, steps_asked, steps_askable}
 
 -- ---- what each process did by itself
 
@@ -103,6 +104,10 @@ sent_before (a ∷ before) d there message sent =
     (λ (later : Contains before d). Contains-append_right (sent_by a) (all_sent before) message (sent_before before d later message sent))
     (by_index a d before there.0 there.1 there.2)
 
+abbrev IsAboutStep : Plan → Step → Type 0
+IsAboutStep plan (Puts word) = IsAboutOne plan word
+IsAboutStep plan (Unheard body) = Unit {0}
+
 abbrev Asked : (before : List Action) (start : World) (i : ℕ) → List Entry → Type 0
 Asked before start i front = HasAnswered before start.plan.place i front
 
@@ -120,23 +125,42 @@ module _ (before : List Action) (start : World) (i : ℕ) (plan : Plan) (stores 
       (λ message sent. sent_before before (Took start.plan.place a.entry (SentinelAt i) a.left) a.took message
       (subst (λ (e : Entry). Contains (sent_by (Took start.plan.place e (SentinelAt i) a.left)) message) (sym entry_is) sent))
 
-  heard_so : (v : View) (words : List LinkWord) (events : List Event) (event : Event) → AllByRecursion IsAskableWord words
-      → AllByRecursion (IsAboutOne start.plan) words → AreDeliveredSo (Asked before start i) IsKeptSo start (SentinelAt i) v words events → Contains events event
+  heard_so : (v : View) (words : List Step) (events : List Event) (event : Event) → AllByRecursion IsAskableStep words
+      → AllByRecursion (IsAboutStep start.plan) words → AreDeliveredSo (Asked before start i) IsKeptSo start (SentinelAt i) v words events → Contains events event
       → IsHeard plan stores (all_sent before) i event
   heard_so v words [] event askable one d there = let low = there.1 in absurd (omega (arith, low))
   heard_so v [] (e ∷ events) event askable one d there = absurd d
-  heard_so v (AsksRow name ∷ words) (e ∷ events) event askable one d there = heard_so v words (e ∷ events) event askable.1 one.1 d there
-  heard_so v (Says question ∷ words) (e ∷ events) event askable one d there =
+  heard_so v (Puts (AsksRow name) ∷ words) (e ∷ events) event askable one d there = heard_so v words (e ∷ events) event askable.1 one.1 d there
+  heard_so v (Unheard body ∷ words) (e ∷ events) event askable one d there = heard_so v words (e ∷ events) event askable.1 one.1 d there
+  heard_so v (Puts (AsksThere name m addr epoch candidate) ∷ words) (e ∷ events) event askable one (inr d) there =
+      heard_so v words (e ∷ events) event askable.1 one.1 d there
+  heard_so v (Puts (AsksThere name m addr epoch candidate) ∷ words) (e ∷ events) event askable one (inl (alone, d)) there =
+      ⊎_elim
+      (λ (is : e ≡ event). subst (IsHeard plan stores (all_sent before) i) is (one_heard v d.2 d.0 e d.1.0 (d.1.2 start.plan alone) d.3 d.4))
+      (λ (later : Contains events event). heard_so d.2 words events event askable.1 one.1 d.5 later)
+      (by_index e event events there.0 there.1 there.2)
+  heard_so v (Puts (Says question) ∷ words) (e ∷ events) event askable one d there =
       ⊎_elim
       (λ (is : e ≡ event). subst (IsHeard plan stores (all_sent before) i) is (one_heard v d.2 d.0 e d.1.0 (d.1.2 start.plan one.0) d.3 d.4))
       (λ (later : Contains events event). heard_so d.2 words events event askable.1 one.1 d.5 later)
       (by_index e event events there.0 there.1 there.2)
 
--- a row is answered by one value
-rows_are_one : (words : List LinkWord) → AllByRecursion (RowIsOne IsAnsweredRow) words
-rows_are_one [] = tt
-rows_are_one (Says body ∷ words) = (tt, rows_are_one words)
-rows_are_one (AsksRow name ∷ words) = (λ g bytes answered. answered name refl, rows_are_one words)
+-- a row is answered by one value, and tells addresses of the plan
+rows_are_one : (plan : Plan) (words : List LinkWord) → AllByRecursion (IsAboutOne plan) words → AllByRecursion (RowIsOne plan (IsAnsweredRow plan)) (steps_of words)
+rows_are_one plan [] about = tt
+rows_are_one plan (Says body ∷ words) about = (tt, rows_are_one plan words about.1)
+rows_are_one plan (AsksRow name ∷ words) about =
+    (λ g bytes answered. let row = answered name refl in (row.answer, row.spelled, row.plain), rows_are_one plan words about.1)
+rows_are_one plan (AsksThere name m addr epoch candidate ∷ words) about = (
+  λ g bytes answered.
+      let row = answered name refl in
+      record { answer = row.answer; spelled = row.spelled; plain = row.plain; alone = λ told. row.place m addr about.0 told },
+  rows_are_one plan words about.1,
+)
+
+steps_about : (plan : Plan) (words : List LinkWord) → AllByRecursion (IsAboutOne plan) words → AllByRecursion (IsAboutStep plan) (steps_of words)
+steps_about plan [] about = tt
+steps_about plan (word ∷ words) about = (about.0, steps_about plan words about.1)
 
 module _ (roster : Roster) (plan : Plan) (stores : ℕ) (before : List Action) (i k : ℕ) (event : Event) (h : IsHeardFrom roster before i k event) where
   abbrev c : IsCarried roster before i (id_of roster k) h.start h.asked h.came
@@ -148,10 +172,10 @@ module _ (roster : Roster) (plan : Plan) (stores : ℕ) (before : List Action) (
   among : Contains heard_there event
   among = Contains-append_right h.told.before (event ∷ h.told.after) event (zero, omega arith, refl)
 
-  linked : IsLinked (Asked before h.start i) IsAnsweredRow h.start (SentinelAt k) c.g c.login (id_of roster k) c.words heard_there
+  linked : IsLinked (Asked before h.start i) (IsAnsweredRow h.start.plan) h.start (SentinelAt k) c.g c.login (id_of roster k) (steps_of c.words) heard_there
   linked = record {
-    rows = rows_are_one c.words;
-    askable = c.askable;
+    rows = rows_are_one h.start.plan c.words c.alone;
+    askable = steps_askable c.words c.askable;
     known = c.known;
     quiet = c.quiet;
     silent = c.silent;
@@ -159,7 +183,7 @@ module _ (roster : Roster) (plan : Plan) (stores : ℕ) (before : List Action) (
     greets = c.greets;
     got = c.got;
     not_yet_got = c.not_yet_got;
-    sent = c.sent;
+    sent = ap (λ (t : List ℕ). id_bytes (Some (id_of roster k)) ++ t) (steps_bytes c.words) ∙ c.sent;
     values = c.values;
     unread = c.unread;
     parts = c.parts;
@@ -174,7 +198,8 @@ module _ (roster : Roster) (plan : Plan) (stores : ℕ) (before : List Action) (
     held = h.told.rest;
     read = h.told.parts;
     left = h.told.left;
-    tells = subst (λ (l : List Question). LinkTells (SentinelAt k) false l h.told.values heard_there h.told.left) c.asked_is h.told.tells;
+    tells = subst (λ (l : List Question). LinkTells (SentinelAt k) false l h.told.values heard_there h.told.left)
+        (c.asked_is ∙ ap (λ (l : List Question). login_questions c.login ++ (id_questions (Some (id_of roster k)) ++ l)) (sym (steps_asked c.words))) h.told.tells;
   }
 
   -- who has the run id is the Sentinel that was meant
@@ -189,9 +214,9 @@ module _ (roster : Roster) (plan : Plan) (stores : ℕ) (before : List Action) (
   over_connection ids =
       ⊎_elim
       (λ (none : heard_there ≡ []). let low = (subst (λ (l : List Event). Contains l event) none among).1 in absurd (omega (arith, low)))
-      (λ goes. heard_so before h.start i plan stores c.g.party.view c.words heard_there event c.askable c.alone (goes.2 (ap SentinelAt (met ids goes.0 goes.1))) among)
-      (links_deliver (Asked before h.start i) IsAnsweredRow IsKeptSo (λ g question bytes askable answered. heard_kept g.asker.current question askable) h.start (SentinelAt i)
-      (SentinelAt k) c.g c.login (id_of roster k) c.words heard_there linked)
+      (λ goes. heard_so before h.start i plan stores c.g.party.view (steps_of c.words) heard_there event (steps_askable c.words c.askable) (steps_about h.start.plan c.words c.alone) (goes.2 (ap SentinelAt (met ids goes.0 goes.1))) among)
+      (links_deliver (Asked before h.start i) (IsAnsweredRow h.start.plan) IsKeptSo (λ g question bytes askable answered. heard_kept g.asker.current question askable) h.start (SentinelAt i)
+      (SentinelAt k) c.g c.login (id_of roster k) (steps_of c.words) heard_there linked)
 
 -- what may be taken is heard as the laws of processes ask it
 taken_is_heard : (roster : Roster) (plan : Plan) (stores : ℕ) (before : List Action) (i : ℕ) (event : Event) → HasDistinctIds roster

@@ -1,8 +1,9 @@
 -- The whole connection.
-use Rattle.std.proofs.Common.{◌≡◌, ℕ, false, List, [], ◌∷◌, ◌++◌, map, ap, sym, ◌∙◌, subst, append_assoc, Some, None, Ok}
+use Rattle.std.proofs.Common.{◌≡◌, ℕ, false, List, [], ◌∷◌, ◌++◌, map, refl, ap, sym, ◌∙◌, subst, append_assoc, Some, None, Ok}
 use Rattle.std.specs.List.{flat_map, AllByRecursion}
 use Rattle.ballot_law.specs.declared.events.Event.{Event}
 use Rattle.ballot_law.specs.declared.messages.Body.{Body}
+use Rattle.ballot_law.specs.declared.messages.Body.TheVariants.{Ask, Answer, Ping, PingText, InfoAsk, InfoText, Publish, HelloText, ReplicaOf, HandOver, AddressAsk, AddressAnswer, PortReply, RoleAsk, RoleText, Done}
 use Rattle.ballot_law.specs.declared.messages.NodeName.{NodeName}
 use Rattle.ballot_law.specs.declared.messages.NodeName.TheVariants.{SentinelAt}
 use Rattle.node_texts.specs.Messages.MessageTexts.{message_bytes, body_frame}
@@ -13,7 +14,7 @@ use Rattle.sentinel_cell.specs.Histories.{World}
 use Rattle.port_sessions.specs.Talks.{Party, Responds}
 use Rattle.links.specs.declared.sessions.heard.Heard.{Heard}
 use Rattle.links.specs.declared.sessions.questions.Question.{Question}
-use Rattle.links.specs.Sessions.Links.{question_of, next_asked, listed, heard_of, Tells}
+use Rattle.links.specs.Sessions.Links.{question_of, next_asked, listed, heard_of, follow_up, Tells}
 use Rattle.resp2.specs.Long.LongValues.{told_value, IsLongFrame}
 use Rattle.resp2.proofs.LongLemmas.Values.{value_plain}
 use Rattle.process_laws.specs.Connections.{IsAskable, Served, AreDelivered, AnswersAreDelivered}
@@ -44,6 +45,30 @@ others_asked one other ones others e = sym (ap (λ (x : Question × List Questio
 pub by_first : (f : Frame) (fs : List Frame) (held more : List ℕ) → (flat_map spelling (f ∷ fs) ++ held) ++ more ≡ spelling f ++ ((flat_map spelling fs ++ held) ++ more)
 by_first f fs held more =
     ap (λ (t : List ℕ). t ++ more) (append_assoc (spelling f) (flat_map spelling fs) held) ∙ append_assoc (spelling f) (flat_map spelling fs ++ held) more
+
+-- the answer to a message leaves the others asked
+follows_nothing : (a : Body) (f : Frame) → IsAskable a → follow_up (question_of a) f ≡ []
+follows_nothing Ping f askable = refl
+follows_nothing (Ask m addr epoch candidate) f askable = refl
+follows_nothing (Answer n addr down leader voted) f askable = absurd askable
+follows_nothing (PingText is_error text) f askable = absurd askable
+follows_nothing InfoAsk f askable = absurd askable
+follows_nothing (InfoText info) f askable = absurd askable
+follows_nothing (Publish hello) f askable = absurd askable
+follows_nothing (HelloText hello) f askable = absurd askable
+follows_nothing (ReplicaOf to) f askable = absurd askable
+follows_nothing (HandOver heir) f askable = absurd askable
+follows_nothing (AddressAsk name) f askable = absurd askable
+follows_nothing (AddressAnswer shown) f askable = absurd askable
+follows_nothing (PortReply shown text) f askable = absurd askable
+follows_nothing RoleAsk f askable = absurd askable
+follows_nothing (RoleText role) f askable = absurd askable
+follows_nothing Done f askable = absurd askable
+
+pub others_left : (a : Body) (question : Question) (others left : List Question) (f : Frame) → IsAskable a → question_of a ≡ question → left ≡ others
+    → follow_up question f ++ left ≡ others
+others_left a question others left f askable is same =
+    ap (λ (q : Question). follow_up q f ++ left) (sym is) ∙ ap (λ (l : List Question). l ++ left) (follows_nothing a f askable) ∙ same
 
 pub delivered : (start : World) (asker : NodeName) (questions : List Body) (p : Party) (values : List Frame) (unread not_yet_got bytes : List ℕ) (q : Party)
     (replies : List Frame) (held not_yet_come : List ℕ) (events : List Event) (left : List Question)
@@ -82,7 +107,8 @@ delivered start asker (a ∷ questions) p (x ∷ xs) unread not_yet_got bytes q 
     let all : events ≡ event.0 ∷ tells.3 = tells.6 ∙ ap (λ (h : Heard). listed h ++ tells.3) event.1 in
     let later = delivered start asker questions middle xs unread not_yet_got others q rs held not_yet_come tells.3 left askable.1 reply.1 question_is.1 whole.1 served.6
     reply_is.1 read.1
-    (subst (λ (k : List Question). Tells voter false k rs tells.3 left) same_others tells.7) in
+    (subst (λ (k : List Question). Tells voter false k rs tells.3 left)
+    (others_left a tells.0 (map question_of questions) tells.1 (told_value r) askable.0 same_question same_others) tells.7) in
     subst (λ (list : List Event). AreDelivered start asker p.view (a ∷ questions) list) (sym all) (middle.view, event.2, later)
 
 pub answers_are_delivered : AnswersAreDelivered

@@ -46,14 +46,14 @@ use Rattle.sentinel_cell.specs.Histories.{World, replay}
 use Rattle.sentinel_cell.proofs.Cards.{same_plan}
 use Rattle.sentinel_rules.specs.Plans.{Plan, me, group_size}
 use Rattle.process_laws.specs.Connections.{AreDelivered}
-use Rattle.process_laws.specs.Connected.{LinkWord, Says, bytes_of, question_for, IsAskableWord, ServedOn, EachTurn}
+use Rattle.process_laws.specs.Connected.{ServedOn, EachTurn}
 use Rattle.process_laws.specs.Openings.{IsGreeting, IsConnectedAnew, NewConnectionsDeliver, PiecesAreANewConnection}
 use Rattle.process_laws.proofs.OwnCommands.{own_answer}
 use Rattle.process_laws.proofs.Joining.{spelled_some, by_first}
 use Rattle.process_laws.proofs.Pieces.{questions_spelled, served_as_sent}
 use Rattle.process_laws.proofs.SharedConnections.{AreDeliveredSo, only_delivered, later_all, Whatever, Nears, IsItself, HearsSo, hears_near, served_near, delivered}
 use Rattle.process_laws.proofs.Turns.{answers, turned, no_null}
-use Rattle.process_laws.proofs.Words.{TellsNothing, nothing_told, order_tells, passed_over, RowIsOne, said_bytes, said_asked, said_askable, said_no_row}
+use Rattle.process_laws.proofs.Words.{TellsNothing, nothing_told, order_tells, passed_over, Step, step_bytes, step_asks, IsAskableStep, RowIsOne, said, said_bytes, said_asked, said_askable, said_no_row}
 
 -- ---- the run id that was told
 
@@ -146,7 +146,7 @@ same_run_id node id own got is e =
 -- ---- what is delivered later
 
 -- nothing was heard, or the other end has this run id, and what was heard in its name is delivered
-abbrev pub Goes : (List Entry → Type 0) → (Body → Body → Type 0) → World → (asker voter : NodeName) → Guest → RunId → List LinkWord → List Event → Type 0
+abbrev pub Goes : (List Entry → Type 0) → (Body → Body → Type 0) → World → (asker voter : NodeName) → Guest → RunId → List Step → List Event → Type 0
 Goes P R start asker voter g id words events =
     (events ≡ []) ⊎ ((me start.plan ≡ id) × (start.plan.place < group_size start.plan)
     × (voter ≡ SentinelAt start.plan.place → AreDeliveredSo P R start asker g.party.view words events))
@@ -155,20 +155,20 @@ Goes P R start asker voter g id words events =
 
 module _ (P : List Entry → Type 0) (Q : Guest → Frame → List ℕ → Type 0) (R : Body → Body → Type 0) (hears : HearsSo Q R) (start : World) (asker voter : NodeName)
     (id : RunId) where
-  identified : (words : List LinkWord) (g : Guest) (values : List Frame) (unread not_yet_got bytes : List ℕ) (h : Guest)
+  identified : (words : List Step) (g : Guest) (values : List Frame) (unread not_yet_got bytes : List ℕ) (h : Guest)
       (replies : List Frame) (held not_yet_come : List ℕ) (events : List Event) (left : List Question)
-      → AllByRecursion (RowIsOne Q) words → AllByRecursion IsAskableWord words → is_stranger g.asker ≡ false → is_listening g.listening ≡ false → g.party.listens ≡ None
-      → spelling id_value ++ flat_map bytes_of words ≡ (flat_map spelling values ++ unread) ++ not_yet_got → AllByRecursion IsFrame values
+      → AllByRecursion (RowIsOne start.plan Q) words → AllByRecursion IsAskableStep words → is_stranger g.asker ≡ false → is_listening g.listening ≡ false → g.party.listens ≡ None
+      → spelling id_value ++ flat_map step_bytes words ≡ (flat_map spelling values ++ unread) ++ not_yet_got → AllByRecursion IsFrame values
       → (served : ServedOn start g values bytes h) → EachTurn P Q start g values bytes h served
       → bytes ≡ (flat_map spelling replies ++ held) ++ not_yet_come → AllByRecursion IsLongFrame replies
-      → Tells voter false (Identity id ∷ map question_for words) replies events left
+      → Tells voter false (Identity id ∷ map step_asks words) replies events left
       → Goes P R start asker voter g id words events
   identified words g values unread not_yet_got bytes h [] held not_yet_come events left rows askable known quiet silent sent whole served turns put_out read tells = inl tells.0
   identified words g [] unread not_yet_got bytes h (r ∷ rs) held not_yet_come events left rows askable known quiet silent sent whole served turns put_out read tells =
       absurd (spelled_some r ((flat_map spelling rs ++ held) ++ not_yet_come) (sym served.0 ∙ put_out ∙ by_first r rs held not_yet_come))
   identified words g (x ∷ xs) unread not_yet_got bytes h (r ∷ rs) held not_yet_come events left rows askable known quiet silent sent whole served turns put_out
       read tells =
-      let others_sent = flat_map bytes_of words in
+      let others_sent = flat_map step_bytes words in
       let value_is = one_spelling id_value x others_sent ((flat_map spelling xs ++ unread) ++ not_yet_got) id_value_whole.plain whole.0.plain
       (sent ∙ by_first x xs unread not_yet_got) in
       let next = served.1 in
@@ -184,7 +184,7 @@ module _ (P : List Entry → Type 0) (Q : Guest → Frame → List ℕ → Type 
       let reply_bytes : spelling (id_frame own) ++ others ≡ spelling r ++ ((flat_map spelling rs ++ held) ++ not_yet_come) =
       ap (λ (t : List ℕ). t ++ others) (sym reply.0.spelled) ∙ sym served.5 ∙ put_out ∙ by_first r rs held not_yet_come in
       let reply_is = one_spelling (id_frame own) r others ((flat_map spelling rs ++ held) ++ not_yet_come) plain (value_plain r read.0) reply_bytes in
-      let rest = passed_over voter (Identity id) (map question_for words) r rs events left (identity_tells voter id) tells in
+      let rest = passed_over voter (Identity id) (map step_asks words) r rs events left (identity_tells voter id) tells in
       let heard_id : heard_of voter (Identity id) (told_value (id_frame own)) ≡ Ok rest.got =
       ap (λ (f : Frame). heard_of voter (Identity id) (told_value f)) reply_is.0 ∙ rest.heard in
       let known_then : is_stranger middle.asker ≡ false = ap (λ (g : Guest). is_stranger g.asker) reply.2 ∙ (later.known ∙ known) in
@@ -195,7 +195,7 @@ module _ (P : List Entry → Type 0) (Q : Guest → Frame → List ℕ → Type 
         same_run_id voter id own rest.got reply.0.is_id heard_id,
         reply.0.place,
         λ (named : voter ≡ SentinelAt start.plan.place).
-            let tells_on = subst (λ (n : NodeName). Tells n false (map question_for words) rs events left) named rest.tells in
+            let tells_on = subst (λ (n : NodeName). Tells n false (map step_asks words) rs events left) named rest.tells in
             later_all P R start asker g.party.view middle.party.view (later.more ++ reply.0.more) words events front
             (delivered P Q R hears start asker words middle xs unread not_yet_got others h rs held not_yet_come events left rows askable known_then quiet_then reply.1 value_is.1
             whole.1
@@ -206,9 +206,9 @@ module _ (P : List Entry → Type 0) (Q : Guest → Frame → List ℕ → Type 
 
 -- a connection from its opening on, to whichever node the link takes it to be
 pub record IsLinked (P : List Entry → Type 0) (Q : Guest → Frame → List ℕ → Type 0) (start : World) (voter : NodeName) (g : Guest) (login : Login) (id : RunId)
-    (words : List LinkWord) (events : List Event) : Type 0 where
-  pub rows : AllByRecursion (RowIsOne Q) words
-  pub askable : AllByRecursion IsAskableWord words
+    (words : List Step) (events : List Event) : Type 0 where
+  pub rows : AllByRecursion (RowIsOne start.plan Q) words
+  pub askable : AllByRecursion IsAskableStep words
   pub known : is_stranger g.asker ≡ false
   pub quiet : is_listening g.listening ≡ false
   pub silent : g.party.listens ≡ None
@@ -216,7 +216,7 @@ pub record IsLinked (P : List Entry → Type 0) (Q : Guest → Frame → List �
   pub greets : IsGreeting login greeting
   pub got : List ℕ
   pub not_yet_got : List ℕ
-  pub sent : id_bytes (Some id) ++ flat_map bytes_of words ≡ got ++ not_yet_got
+  pub sent : id_bytes (Some id) ++ flat_map step_bytes words ≡ got ++ not_yet_got
   pub values : List Frame
   pub unread : List ℕ
   pub parts : Parts got values unread
@@ -231,12 +231,12 @@ pub record IsLinked (P : List Entry → Type 0) (Q : Guest → Frame → List �
   pub held : List ℕ
   pub read : LongParts came replies held
   pub left : List Question
-  pub tells : Tells voter false (login_questions login ++ (id_questions (Some id) ++ map question_for words)) replies events left
+  pub tells : Tells voter false (login_questions login ++ (id_questions (Some id) ++ map step_asks words)) replies events left
 
 module _ (P : List Entry → Type 0) (Q : Guest → Frame → List ℕ → Type 0) (R : Body → Body → Type 0) (hears : HearsSo Q R) (start : World) (asker voter : NodeName)
-    (g : Guest) (login : Login) (id : RunId) (words : List LinkWord) (events : List Event) (c : IsLinked P Q start voter g login id words events) where
+    (g : Guest) (login : Login) (id : RunId) (words : List Step) (events : List Event) (c : IsLinked P Q start voter g login id words events) where
   -- no login
-  without_login : c.greeting ≡ [] → Tells voter false (Identity id ∷ map question_for words) c.replies events c.left → Goes P R start asker voter g id words events
+  without_login : c.greeting ≡ [] → Tells voter false (Identity id ∷ map step_asks words) c.replies events c.left → Goes P R start asker voter g id words events
   without_login none asks =
       identified P Q R hears start asker voter id words g c.values c.unread c.not_yet_got c.bytes c.h c.replies c.held c.not_yet_come events c.left c.rows c.askable c.known c.quiet
       c.silent (c.sent ∙ ap (λ (t : List ℕ). t ++ c.not_yet_got) c.parts.0) c.parts.1 c.served c.turns
@@ -244,7 +244,7 @@ module _ (P : List Entry → Type 0) (Q : Guest → Frame → List ℕ → Type 
 
   -- a login, answered by one value
   with_login : (answer : Frame) → c.greeting ≡ answer ∷ [] → IsPlain answer → (replies : List Frame) → c.replies ≡ replies
-      → Tells voter false (Order ∷ (Identity id ∷ map question_for words)) replies events c.left → Goes P R start asker voter g id words events
+      → Tells voter false (Order ∷ (Identity id ∷ map step_asks words)) replies events c.left → Goes P R start asker voter g id words events
   with_login answer one plain [] same asks = inl asks.0
   with_login answer one plain (r ∷ rs) same asks =
       let read : AllByRecursion IsLongFrame (r ∷ rs) = subst (AllByRecursion IsLongFrame) same c.read.1 in
@@ -254,14 +254,14 @@ module _ (P : List Entry → Type 0) (Q : Guest → Frame → List ℕ → Type 
       let whole : spelling answer ++ c.bytes ≡ spelling r ++ ((flat_map spelling rs ++ c.held) ++ c.not_yet_come) =
       greeted ∙ (c.put_out ∙ (ap (λ (t : List ℕ). t ++ c.not_yet_come) came ∙ by_first r rs c.held c.not_yet_come)) in
       let greeting_is = one_spelling answer r c.bytes ((flat_map spelling rs ++ c.held) ++ c.not_yet_come) plain (value_plain r read.0) whole in
-      let rest = passed_over voter Order (Identity id ∷ map question_for words) r rs events c.left (order_tells voter) asks in
+      let rest = passed_over voter Order (Identity id ∷ map step_asks words) r rs events c.left (order_tells voter) asks in
       identified P Q R hears start asker voter id words g c.values c.unread c.not_yet_got c.bytes c.h rs c.held c.not_yet_come events c.left c.rows c.askable c.known c.quiet
       c.silent
       (c.sent ∙ ap (λ (t : List ℕ). t ++ c.not_yet_got) c.parts.0) c.parts.1 c.served c.turns greeting_is.1 read.1 rest.tells
 
 pub links_deliver : (P : List Entry → Type 0) (Q : Guest → Frame → List ℕ → Type 0) (R : Body → Body → Type 0) → HearsSo Q R →
     (start : World) (asker voter : NodeName) (g : Guest) (login : Login) (id : RunId)
-    (words : List LinkWord) (events : List Event) → IsLinked P Q start voter g login id words events → Goes P R start asker voter g id words events
+    (words : List Step) (events : List Event) → IsLinked P Q start voter g login id words events → Goes P R start asker voter g id words events
 links_deliver P Q R hears start asker voter g Without id words events c = without_login P Q R hears start asker voter g Without id words events c c.greets c.tells
 links_deliver P Q R hears start asker voter g (Pass pass) id words events c =
     with_login P Q R hears start asker voter g (Pass pass) id words events c c.greets.0 c.greets.1 c.greets.2 c.replies refl c.tells
@@ -270,9 +270,9 @@ links_deliver P Q R hears start asker voter g (User user pass) id words events c
 
 -- where nothing but messages was put out
 linked : (start : World) (g : Guest) (login : Login) (id : RunId) (questions : List Body) (events : List Event) → IsConnectedAnew start g login id questions events
-    → IsLinked Whatever Nears start (SentinelAt start.plan.place) g login id (map Says questions) events
+    → IsLinked Whatever Nears start (SentinelAt start.plan.place) g login id (said questions) events
 linked start g login id questions events c = record {
-  rows = said_no_row Nears questions;
+  rows = said_no_row start.plan Nears questions;
   askable = said_askable questions c.askable;
   known = c.known;
   quiet = c.quiet;
@@ -305,7 +305,7 @@ nothing_heard start asker v questions events none = subst (λ (l : List Event). 
 
 pub new_connections_deliver : NewConnectionsDeliver
 new_connections_deliver start asker g login id questions events c =
-    let goes = links_deliver Whatever Nears IsItself hears_near start asker (SentinelAt start.plan.place) g login id (map Says questions) events
+    let goes = links_deliver Whatever Nears IsItself hears_near start asker (SentinelAt start.plan.place) g login id (said questions) events
     (linked start g login id questions events c) in
     ⊎_elim (λ (none : events ≡ []). (nothing_heard start asker g.party.view questions events none, inl none))
     (λ heard. (only_delivered Whatever start asker g.party.view questions events (heard.2 refl), inr heard.0))

@@ -20,7 +20,7 @@ use Rattle.sentinel_conf.proofs.SetLemmas.{In}
 use Rattle.sentinel_rules.specs.Plans.{Plan, roster_of, nodes_of}
 use Rattle.sentinel_rules.proofs.Choices.{same_addr-equal}
 use Rattle.process_laws.specs.Connections.{IsAlone, IsListed}
-use Rattle.process_laws.specs.Connected.{Says, AsksRow}
+use Rattle.process_laws.specs.Connected.{Says, AsksRow, AsksThere}
 use Rattle.process_laws.specs.HeardAnswers.{IsOfOneMaster, IsOfItsMaster}
 use Rattle.process_laws.specs.ReadFiles.{HasMastersApart, ReadFilesKeepMastersApart, QuestionsAreAlone}
 
@@ -90,7 +90,7 @@ read_files_keep_masters_apart bytes conf read m n addr k l there here =
 -- ---- questions
 
 -- where masters are apart, an address that a master lists is in its list alone
-alone_of : (plan : Plan) (m : ℕ) (addr : Addr) → HasMastersApart (roster_of plan) → IsListed plan m addr → IsAlone plan m addr
+pub alone_of : (plan : Plan) (m : ℕ) (addr : Addr) → HasMastersApart (roster_of plan) → IsListed plan m addr → IsAlone plan m addr
 alone_of plan m addr apart it = record {
   within = it.within;
   listed = it.listed;
@@ -119,3 +119,4 @@ pub questions_are_alone : QuestionsAreAlone
 questions_are_alone plan [] apart listed = tt
 questions_are_alone plan (Says question ∷ words) apart listed = (of_one_master plan question apart listed.0, questions_are_alone plan words apart listed.1)
 questions_are_alone plan (AsksRow name ∷ words) apart listed = (tt, questions_are_alone plan words apart listed.1)
+questions_are_alone plan (AsksThere name m addr epoch candidate ∷ words) apart listed = (listed.0, questions_are_alone plan words apart listed.1)

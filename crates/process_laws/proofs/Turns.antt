@@ -1,5 +1,5 @@
 -- What a port answers to one question, and what the link hears for it.
-use Rattle.std.proofs.Common.{◌≡◌, ◌≢◌, ℕ, ◌≤◌, Bool, true, false, not, ◌&&◌, ◌||◌, List, [], ◌∷◌, ◌++◌, refl, ap, sym, ◌∙◌, subst, arith, Option, Some, None, Result, Ok}
+use Rattle.std.proofs.Common.{◌≡◌, ◌≢◌, ℕ, ◌≤◌, Bool, true, false, not, ◌&&◌, ◌||◌, List, [], ◌∷◌, ◌++◌, refl, ap, sym, ◌∙◌, subst, append_assoc, arith, Option, Some, None, Result, Ok}
 use Rattle.std.specs.Prelude.{bytes_eq, codes}
 use Rattle.std.specs.List.{flat_map}
 use Rattle.std.proofs.lemmas.List.{append-nil}
@@ -125,6 +125,8 @@ pub record Reply (start : World) (asker : NodeName) (v : View) (question : Body)
   pub spelled : bytes ≡ spelling value
   pub plain : IsPlain value
   pub some : is_null bytes ≡ false
+  pub more : List Entry
+  pub front : w.front ≡ v.front ++ more
   pub hears : (got : Heard) → heard_of (SentinelAt start.plan.place) (question_of question) (told_value value) ≡ Ok got
       → (event : Event) × (got ≡ news.Told event) × IsDelivered start asker v question event w
 
@@ -156,6 +158,8 @@ ask_reply start asker now v m addr epoch candidate bytes w t =
       spelled = spelled;
       some = ap is_null spelled ∙ no_null value plain (λ e. let no : ⊥ = cc in no) (λ e. let no : ⊥ = cc in no);
       plain = plain;
+      more = t.between ++ t.entry ∷ [];
+      front = t.front ∙ append_assoc v.front t.between (t.entry ∷ []);
       hears = λ got e.
           let read = answer_heard voter m addr a.down a.leader a.epoch got most e in (
             read.0,
@@ -187,6 +191,8 @@ ping_reply start asker now v bytes w t =
       spelled = t.bytes_are;
       some = ap is_null t.bytes_are;
       plain = t.writable;
+      more = t.between ++ t.entry ∷ [];
+      front = t.front ∙ append_assoc v.front t.between (t.entry ∷ []);
       hears = λ got e. (
         event,
         let same : got ≡ news.Told event = cc in same,

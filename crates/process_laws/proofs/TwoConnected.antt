@@ -408,11 +408,11 @@ counted : Frame → ℕ
 counted (items fs) = count fs
 counted f = 0
 
-no_row_id : (g : Guest) (bytes : List ℕ) → IsAnsweredRow g id_value bytes
+no_row_id : (g : Guest) (bytes : List ℕ) → IsAnsweredRow other_world.plan g id_value bytes
 unfolding counted
 no_row_id g bytes name e = let same : 2 ≡ 3 = ap counted e in absurd (omega (arith, same))
 
-no_row : (epoch : ℕ) (candidate : Option RunId) (g : Guest) (bytes : List ℕ) → IsAnsweredRow g (ask_frame (local 6379) epoch candidate) bytes
+no_row : (epoch : ℕ) (candidate : Option RunId) (g : Guest) (bytes : List ℕ) → IsAnsweredRow other_world.plan g (ask_frame (local 6379) epoch candidate) bytes
 unfolding counted
 no_row epoch candidate g bytes name e = let same : 6 ≡ 3 = ap counted e in absurd (omega (arith, same))
 

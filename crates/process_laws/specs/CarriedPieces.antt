@@ -65,7 +65,7 @@ pub record IsCarriedInPieces (roster : Roster) (before : List Action) (i : ℕ) 
   pub sent : id_bytes (Some id) ++ flat_map bytes_of words ≡ flat_map (λ (piece : List ℕ). piece) pieces ++ not_yet_got
   pub bytes : List ℕ
   pub answered : AnsweredOn start g [] pieces bytes
-  pub turns : EachTurnInPieces (HasAnswered before start.plan.place i) IsAnsweredRow start g [] pieces bytes answered
+  pub turns : EachTurnInPieces (HasAnswered before start.plan.place i) (IsAnsweredRow start.plan) start g [] pieces bytes answered
   pub not_yet_come : List ℕ
   pub put_out : flat_map spelling greeting ++ bytes ≡ came ++ not_yet_come
 

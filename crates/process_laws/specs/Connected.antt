@@ -1,10 +1,12 @@
 -- Processes of a group whose Sentinels hear each other over connections, each given by what it did by itself.
-use Rattle.std.specs.Prelude.{◌≡◌, ℕ, ◌<◌, ◌⊎◌, false, cond, Some, None, List, [], ◌∷◌, ◌++◌, map, length, Contains, codes}
+use Rattle.std.specs.Prelude.{◌≡◌, ℕ, ◌<◌, ◌⊎◌, true, false, cond, Option, Some, None, List, [], ◌∷◌, ◌++◌, map, length, Contains, codes}
 use Rattle.std.specs.List.{flat_map, AllByRecursion}
+use Rattle.ballot_law.specs.declared.addresses.Addr.{Addr}
 use Rattle.ballot_law.specs.declared.addresses.RunId.{RunId}
 use Rattle.ballot_law.specs.declared.cards.Kept.{Kept}
 use Rattle.ballot_law.specs.declared.events.Event.{Event}
 use Rattle.ballot_law.specs.declared.messages.Body.{Body}
+use Rattle.ballot_law.specs.declared.messages.Body.TheVariants.{Ask}
 use Rattle.ballot_law.specs.declared.messages.NodeName.{NodeName}
 use Rattle.ballot_law.specs.declared.messages.NodeName.TheVariants.{SentinelAt}
 use Rattle.ballot_law.specs.declared.messages.Output.{Output}
@@ -12,15 +14,15 @@ use Rattle.ballot_law.specs.declared.messages.Output.TheVariants.{Send, Tell}
 use Rattle.ballot_law.specs.declared.steps.KeptText.{KeptText}
 use Rattle.ballot_law.specs.Law.{IsStart, HasOneLeader, HasOneAddress}
 use Rattle.ballot_law.specs.Names.{IsName}
-use Rattle.ballot_law.specs.Rosters.{Roster, size, id_of, HasDistinctIds}
+use Rattle.ballot_law.specs.Rosters.{Roster, size, id_of, master_at, HasDistinctIds}
 use Rattle.ballot_law.specs.Worlds.{World as Group, IsFree}
 use Rattle.client_commands.specs.Courtesies.{is_stranger}
 use Rattle.courteous_sessions.specs.Visits.{Guest, Tells as TellsClient}
 use Rattle.links.specs.declared.sessions.questions.Question.{Question}
-use Rattle.links.specs.declared.sessions.questions.Question.TheVariants.{Row}
+use Rattle.links.specs.declared.sessions.questions.Question.TheVariants.{Row, Locate}
 use Rattle.links.specs.declared.speaking.Login.{Login}
-use Rattle.links.specs.Sessions.Links.{question_of, Tells as LinkTells}
-use Rattle.resp2.specs.Long.LongValues.{LongParts}
+use Rattle.links.specs.Sessions.Links.{question_of, tells_place, Tells as LinkTells}
+use Rattle.resp2.specs.Long.LongValues.{LongParts, told_value}
 use Rattle.links.specs.Speaking.{login_questions, id_bytes, id_questions, row_bytes}
 use Rattle.node_texts.specs.Messages.MessageTexts.{message_bytes, words_frame}
 use Rattle.pubsub.specs.Listening.{is_listening}
@@ -30,9 +32,9 @@ use Rattle.sentinel_cell.specs.declared.entry.Entry.{Entry}
 use Rattle.sentinel_cell.specs.EntrySteps.{kept_left}
 use Rattle.sentinel_cell.specs.Histories.{World, IsLegal, replay}
 use Rattle.sentinel_rules.specs.Ignored.{is_noticed}
-use Rattle.sentinel_rules.specs.Plans.{Plan, roster_of}
+use Rattle.sentinel_rules.specs.Plans.{Plan, roster_of, master_count}
 use Rattle.process_laws.specs.Actions.{Action, Opened, Took, Told, IsOpened, IsPublished, AreActions, actions_after, all_sent, all_said, all_elected, at_first, FilesNeverFall, StoredIsFiled}
-use Rattle.process_laws.specs.Connections.{IsAskable}
+use Rattle.process_laws.specs.Connections.{IsAskable, IsAlone}
 use Rattle.process_laws.specs.Differing.{DifferInNodes}
 use Rattle.process_laws.specs.HeardAnswers.{IsOfOneMaster, TellsOfRunId}
 use Rattle.process_laws.specs.Openings.{IsGreeting}
@@ -93,10 +95,11 @@ actions_of i (life ∷ lives) = Opened i life.opened life.now ∷ (map (action_o
 
 -- ---- what goes over a connection
 
--- what a link puts out behind what comes before all words: a message, or the question for the row of a master by its name
+-- What a link puts out behind what comes before all words: a message, the question for the row of a master by its name, or that and then whether the master is down
 pub data LinkWord : Type 0 where
   Says : (body : Body) → LinkWord
   AsksRow : (name : List ℕ) → LinkWord
+  AsksThere : (name : List ℕ) (master : ℕ) (addr : Addr) (epoch : ℕ) (candidate : Option RunId) → LinkWord
 
 abbrev pub row_frame : List ℕ → Frame
 row_frame name = words_frame (codes "SENTINEL" ∷ codes "MASTER" ∷ name ∷ [])
@@ -104,23 +107,36 @@ row_frame name = words_frame (codes "SENTINEL" ∷ codes "MASTER" ∷ name ∷ [
 abbrev pub bytes_of : LinkWord → List ℕ
 bytes_of (Says body) = message_bytes body
 bytes_of (AsksRow name) = row_bytes name
+bytes_of (AsksThere name m addr epoch candidate) = row_bytes name ++ message_bytes (Ask m addr epoch candidate)
 
 abbrev pub question_for : LinkWord → Question
 question_for (Says body) = question_of body
 question_for (AsksRow name) = Row
+question_for (AsksThere name m addr epoch candidate) = Locate m addr
 
 -- a Sentinel asks another one this
 abbrev pub IsAskableWord : LinkWord → Type 0
 IsAskableWord (Says body) = IsAskable body
 IsAskableWord (AsksRow name) = IsName name
+IsAskableWord (AsksThere name m addr epoch candidate) = IsName name × IsAskable (Ask m addr epoch candidate)
 
--- where it is about a master, that is the only one of this plan whose list has the address
+-- the master with this number has this name in this plan
+pub record IsNamed (plan : Plan) (m : ℕ) (name : List ℕ) : Type 0 where
+  pub within : m < master_count plan
+  pub named : name ≡ (master_at (roster_of plan) m).name
+
+-- Where it is about a master, that is the only one of this plan whose list has the address; behind a row, it is the one with this name
 abbrev pub IsAboutOne : Plan → LinkWord → Type 0
 IsAboutOne plan (Says body) = IsOfOneMaster plan body
 IsAboutOne plan (AsksRow name) = Unit {0}
+IsAboutOne plan (AsksThere name m addr epoch candidate) = IsNamed plan m name
 
-abbrev pub IsOneValue : List ℕ → Type 0
-IsOneValue bytes = (answer : Frame) × (bytes ≡ spelling answer) × IsPlain answer
+-- one value, and where that is a row that tells an address, in this plan the master with this name alone has it in its list
+pub record IsRowOf (plan : Plan) (name bytes : List ℕ) : Type 0 where
+  pub answer : Frame
+  pub spelled : bytes ≡ spelling answer
+  pub plain : IsPlain answer
+  pub place : (m : ℕ) (addr : Addr) → IsNamed plan m name → tells_place addr (told_value answer) ≡ true → IsAlone plan m addr
 
 -- The answers to these values, in their order, as in ServedBeside; but the port may have been asked for a vote in an epoch that is too far above the one that the
 -- connection was told, and have heard that as one in epoch 0
@@ -130,9 +146,9 @@ ServedOn start g (value ∷ values) bytes h =
     (now : ℕ) × (next : Guest) × (middle : Guest) × (first : List ℕ) × (rest : List ℕ) × (bytes ≡ first ++ rest)
     × IsLater g next × TellsClient start now next value first middle × ServedOn start middle values rest h
 
--- where it is the question for a row, it is answered by one value
-abbrev pub IsAnsweredRow : Guest → (value : Frame) → (bytes : List ℕ) → Type 0
-IsAnsweredRow g value bytes = (name : List ℕ) → value ≡ row_frame name → IsOneValue bytes
+-- where it is the question for a row, it is answered by a row of the plan
+abbrev pub IsAnsweredRow : Plan → Guest → (value : Frame) → (bytes : List ℕ) → Type 0
+IsAnsweredRow plan g value bytes = (name : List ℕ) → value ≡ row_frame name → IsRowOf plan name bytes
 
 -- of each value that was served Q holds, with its answer, and where it took a turn, P of all that the seat had seen after it
 abbrev pub EachTurn : (P : List Entry → Type 0) → (Q : Guest → Frame → List ℕ → Type 0) → (start : World) (g : Guest) (values : List Frame) (bytes : List ℕ) (h : Guest)
@@ -159,8 +175,9 @@ pub record HasAnswered (before : List Action) (place i : ℕ) (front : List Entr
 -- What came on a connection of Sentinel i, for what was asked on it.
 -- TCP: it is a first part of what one connection of a port put out for a first part of what went out.
 -- The other end: a process that began in this world, of a Sentinel whose roster differs from the group's in data nodes alone. Each turn that it took for this connection is one
--- that it took before, asked by Sentinel i. A login was answered by one value, after which no password is owed, and so is each question for a row.
--- The link logged in, and asked whether the other end has this run id, before all words. Each question is about a master that alone has the address, at the other end
+-- that it took before, asked by Sentinel i. A login was answered by one value, after which no password is owed, and each question for a row by a row of its plan.
+-- The link logged in, and asked whether the other end has this run id, before all words. Each question stands behind one for the row of its master, or is about a master
+-- that alone has the address, at the other end
 pub record IsCarried (roster : Roster) (before : List Action) (i : ℕ) (id : RunId) (start : World) (asked : List Question) (came : List ℕ) : Type 0 where
   pub login : Login
   pub words : List LinkWord
@@ -183,7 +200,7 @@ pub record IsCarried (roster : Roster) (before : List Action) (i : ℕ) (id : Ru
   pub bytes : List ℕ
   pub h : Guest
   pub served : ServedOn start g values bytes h
-  pub turns : EachTurn (HasAnswered before start.plan.place i) IsAnsweredRow start g values bytes h served
+  pub turns : EachTurn (HasAnswered before start.plan.place i) (IsAnsweredRow start.plan) start g values bytes h served
   pub not_yet_come : List ℕ
   pub put_out : flat_map spelling greeting ++ bytes ≡ came ++ not_yet_come
 

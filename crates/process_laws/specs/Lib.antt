@@ -21,3 +21,4 @@ pub mod Watched
 pub mod PortCalls
 pub mod Meanwhile
 pub mod Logins
+pub mod Rows

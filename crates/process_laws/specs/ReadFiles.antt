@@ -6,7 +6,7 @@ use Rattle.ballot_law.specs.Rosters.{Roster, master_at}
 use Rattle.sentinel_conf.specs.Meaning.{ConfPlan}
 use Rattle.sentinel_conf.specs.Reading.{conf_of_bytes}
 use Rattle.sentinel_rules.specs.Plans.{Plan, roster_of}
-use Rattle.process_laws.specs.Connected.{LinkWord, Says, AsksRow, IsAboutOne}
+use Rattle.process_laws.specs.Connected.{LinkWord, Says, AsksRow, AsksThere, IsNamed, IsAboutOne}
 use Rattle.process_laws.specs.HeardAnswers.{IsOfItsMaster}
 
 -- no address is in the lists of two masters
@@ -23,6 +23,7 @@ ReadFilesKeepMastersApart = (bytes : List ℕ) (conf : ConfPlan) → conf_of_byt
 abbrev pub IsAboutListed : Plan → LinkWord → Type 0
 IsAboutListed plan (Says body) = IsOfItsMaster plan body
 IsAboutListed plan (AsksRow name) = Unit {0}
+IsAboutListed plan (AsksThere name m addr epoch candidate) = IsNamed plan m name
 
 -- where no address is in two lists, such questions are each about the only master whose list has the address, as law_connected_processes_are_safe asks of a connection
 abbrev pub QuestionsAreAlone : Type 0

@@ -26,5 +26,6 @@ pub use list_laws::{
 };
 pub use shared_laws::{
     law_calls_between_are_later, law_later_questions_wait, law_logins_have_one_answer,
-    law_new_connections_deliver, law_pieces_are_a_connection, law_shared_answers_are_delivered,
+    law_new_connections_deliver, law_pieces_are_a_connection, law_rows_are_answered,
+    law_shared_answers_are_delivered,
 };

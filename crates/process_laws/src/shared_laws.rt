@@ -3,6 +3,7 @@
 ghost use Rattle.process_laws.specs.Logins.{LoginsHaveOneAnswer};
 ghost use Rattle.process_laws.specs.Meanwhile.{CallsBetweenAreLater};
 ghost use Rattle.process_laws.specs.Openings.{NewConnectionsDeliver, PiecesAreANewConnection};
+ghost use Rattle.process_laws.specs.Rows.{RowsAreAnswered};
 ghost use Rattle.process_laws.specs.SharedConnections.{LaterQuestionsWait, PiecesAreAConnection};
 ghost use Rattle.process_laws.specs.SharedConnections.{SharedAnswersAreDelivered};
 
@@ -41,6 +42,13 @@ pub fn law_logins_have_one_answer()
 pub fn law_pieces_are_a_connection()
     ensures later { PiecesAreAConnection }
     ensures anew { PiecesAreANewConnection }
+{}
+
+/// The question for the row of a master is answered by one value, which tells no address but one of the list of the
+/// master with that name, and of no other, where no address is in two lists, as in each file that is read. Each number
+/// of a row is one of 64 bits. So a vote that is heard behind such a row is about the master that was asked about.
+pub fn law_rows_are_answered()
+    ensures { RowsAreAnswered }
 {}
 
 /// So is a connection from its opening, on which a link logs in and asks for the Sentinel's run id before all messages,

@@ -17,7 +17,8 @@ use Rattle.links.specs.declared.sessions.questions.Question.{Question}
 use Rattle.links.specs.declared.speaking.Login.{Login}
 use Rattle.links.specs.declared.target.Target.{Target}
 use Rattle.links.specs.NodeLinks.{State, fresh, opening_at, asked_at, row_asked_at, ack_asked_at, IsDataNode, IsOwn, put_all, AsksByItself}
-use Rattle.links.specs.Sessions.Links.{Link, next_asked, Tells}
+use Rattle.links.specs.Sessions.Links.{Link, next_asked, follow_up, Tells}
+use Rattle.resp2.specs.Long.LongValues.{told_value}
 use Rattle.tcp_transport.specs.Said.{Word, word_for, row_word, ack_word, first_word, MaySay, Speaks}
 use Rattle.tcp_transport.specs.Sessions.{IsHeardSoFar, IsSession, IsWhole}
 use Rattle.tcp_transport.specs.Sockets.{NoSocket, stands_of}
@@ -39,7 +40,17 @@ tells_more : (node : NodeName) (listens : Bool) (asked more left : List Question
     → Tells node listens asked values events left → Tells node listens (asked ++ more) values events (left ++ more)
 tells_more node listens asked more left [] events silent t = (t.0, ap (λ (x : List Question). x ++ more) t.1)
 tells_more node listens asked more left (value ∷ values) events silent t =
-    (t.0, t.1 ++ more, t.2, t.3, next_more listens asked more t.1 t.0 silent t.4, t.5, t.6, tells_more node listens t.1 more left values t.3 silent t.7)
+    let follow = follow_up t.0 (told_value value) in (
+      t.0,
+      t.1 ++ more,
+      t.2,
+      t.3,
+      next_more listens asked more t.1 t.0 silent t.4,
+      t.5,
+      t.6,
+      subst (λ (l : List Question). Tells node listens l values t.3 (left ++ more)) (append_assoc follow t.1 more)
+          (tells_more node listens (follow ++ t.1) more left values t.3 silent t.7),
+    )
 
 heard_more : (target : Target) (asked more : List Question) (got unsent : List ℕ) (talk : Link) → target.listens ≡ false → IsHeardSoFar target asked got talk
     → IsHeardSoFar target (asked ++ more) got (record talk { unsent = unsent; asked = talk.asked ++ more })
@@ -83,8 +94,8 @@ session_all : (said : Message → Type 0) (target : Target) (put got : List ℕ)
     → IsSession said target put got talk → IsSession said target put got (put_all bodies talk)
 session_all said target put got [] talk silent own h = h
 session_all said target put got (body ∷ bodies) talk silent own h =
-    session_all said target put got bodies (with_word (word_for body) talk) silent own.1
-    (session_word said target put got talk (word_for body) silent h (inl (inl (body, own.0, refl))))
+    session_all said target put got bodies (with_word (word_for [] body) talk) silent own.1
+    (session_word said target put got talk (word_for [] body) silent h (inl (inl (body, own.0, refl))))
 
 -- ---- a connection and its socket
 
@@ -154,12 +165,12 @@ whole_where_open said reaches stands s t u h k shut ok = by_stage s.schedule.sta
   by_stage Closed is = subst (IsWhole said reaches stands) (sym (shut (λ at. shut_at Closed refl (sym is ∙ at)))) h
 
 -- a message to its node that may be said
-pub whole_message : (said : Message → Type 0) (reaches : Target → Type 0) (stands : Target → (put got : List ℕ) → Type 0) (now : ℕ) (message : Message) (s t : State) → IsWhole said reaches stands s
+pub whole_message : (said : Message → Type 0) (reaches : Target → Type 0) (stands : Target → (put got : List ℕ) → Type 0) (now : ℕ) (name : List ℕ) (message : Message) (s t : State) → IsWhole said reaches stands s
     → ∥ said message ∥₁ → s.target.node ≡ message.target → s.target.listens ≡ false → (s.schedule.stage ≢ Open → t ≡ s)
-    → (s.schedule.stage ≡ Open → t ≡ asked_at now message.body s) → IsWhole said reaches stands t
-whole_message said reaches stands now message s t h may to silent =
-    whole_where_open said reaches stands s t (asked_at now message.body s) h
-    (whole_word said reaches stands (word_for message.body) s (asked_at now message.body s) h silent (inr (inl (record { message = message; may = may; is_to = sym to; is = refl }))) refl refl)
+    → (s.schedule.stage ≡ Open → t ≡ asked_at now name message.body s) → IsWhole said reaches stands t
+whole_message said reaches stands now name message s t h may to silent =
+    whole_where_open said reaches stands s t (asked_at now name message.body s) h
+    (whole_word said reaches stands (word_for name message.body) s (asked_at now name message.body s) h silent (inr (inl (record { message = message; may = may; is_to = sym to; name = name; is = refl }))) refl refl)
 
 pub whole_ack : (said : Message → Type 0) (reaches : Target → Type 0) (stands : Target → (put got : List ℕ) → Type 0) (now number : ℕ) (s t : State) → IsWhole said reaches stands s → s.target.listens ≡ false
     → s.target.node ≡ StoreAt number → (s.schedule.stage ≢ Open → t ≡ s) → (s.schedule.stage ≡ Open → t ≡ ack_asked_at now s) → IsWhole said reaches stands t

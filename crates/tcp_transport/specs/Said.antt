@@ -15,9 +15,9 @@ pub record Word : Type 0 where
   pub bytes : List ℕ
   pub asked : List Question
 
--- what goes out for a message
-abbrev pub word_for : Body → Word
-word_for body = record { bytes = bytes_for body; asked = questions_for body }
+-- what goes out for a message, where a question is about the master with this name
+abbrev pub word_for : (name : List ℕ) → Body → Word
+word_for name body = record { bytes = bytes_for name body; asked = questions_for body }
 
 -- the question for the row of a master, by its name
 abbrev pub row_word : List ℕ → Word
@@ -31,7 +31,7 @@ ack_word = record { bytes = ack_bytes; asked = Order ∷ [] }
 
 -- a question that it asks by itself: a PING, or a data node for INFO
 abbrev pub IsOwnQuestion : Target → Word → Type 0
-IsOwnQuestion target word = (body : Body) × IsOwn target.node body × (word ≡ word_for body)
+IsOwnQuestion target word = (body : Body) × IsOwn target.node body × (word ≡ word_for [] body)
 
 -- what it puts out by itself: such a question, or that a data node is to acknowledge its master's stream
 abbrev pub IsOwnWord : Target → Word → Type 0
@@ -42,7 +42,8 @@ pub record IsMessageWord (said : Message → Type 0) (target : Target) (word : W
   pub message : Message
   pub may : ∥ said message ∥₁
   pub is_to : message.target ≡ target.node
-  pub is : word ≡ word_for message.body
+  pub name : List ℕ
+  pub is : word ≡ word_for name message.body
 
 -- the question for the row of a master
 abbrev pub IsRowWord : Word → Type 0

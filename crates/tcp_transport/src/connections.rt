@@ -163,6 +163,17 @@ fn keep_ms_of(plans: &[Option<PlannedWire>]) -> u64 {
     least
 }
 
+/// The name of the master that a question to another Sentinel is about; nothing for other messages.
+fn name_asked<'a>(roster: &'a Roster, body: &Body) -> &'a [u8] {
+    let Body::Ask { master, .. } = body else {
+        return &[];
+    };
+    match roster.masters().get(usize::from(*master)) {
+        Some(watched) => watched.name.as_slice(),
+        None => &[],
+    }
+}
+
 /// The login of a node: that of its master's nodes, or that of all other Sentinels.
 fn login_of<'a>(roster: &Roster, logins: &'a Logins, node: NodeName) -> Login<'a>
     ensures { login_bytes result ≡ sent_to roster.now logins.now.of_masters.items logins.now.of_sentinels node }
@@ -401,7 +412,8 @@ impl<J: Which, C: Connects<J>> Connections<J, C> {
         };
         if let Some(Some(wire)) = self.wires.get_mut(place) {
             if wire.takes(target) {
-                wire.ask(outgoing, now);
+                let name = name_asked(&self.roster, &outgoing.message().body);
+                wire.ask(outgoing, name, now);
             }
         }
     }

@@ -282,7 +282,7 @@ impl<J: Which, C: Connects<J>> PeerConnection<J, C> {
         }
         if let Some(abort) = self.abort.take() {
             if self.takes(abort.message().target) {
-                let _ = self.link.ask(&abort, now);
+                let _ = self.link.ask(&abort, &[], now);
             }
         }
     }
@@ -300,7 +300,7 @@ impl<J: Which, C: Connects<J>> PeerConnection<J, C> {
         }
         if let Some(hello) = self.hello.take() {
             if self.takes(hello.message().target) {
-                let _ = self.link.ask(&hello, now);
+                let _ = self.link.ask(&hello, &[], now);
             }
             self.hello = Some(hello);
         }
@@ -384,9 +384,9 @@ impl<J: Which, C: Connects<J>> PeerConnection<J, C> {
     }
 
     /// Puts out a message where it is open, and sends what it can; else the message is lost. What came of an order to
-    /// follow a master, or none, is asked with it and once more soon, and the last hello goes out again. A fault has
-    /// closed it.
-    pub(crate) fn ask(&mut self, outgoing: &Outgoing<J>, now: u64)
+    /// follow a master, or none, is asked with it and once more soon, and the last hello goes out again. A question is
+    /// about the master with this name. A fault has closed it.
+    pub(crate) fn ask(&mut self, outgoing: &Outgoing<J>, name: &[u8], now: u64)
         requires { (self.old.link.target.node ≡ outgoing.now.target) × (self.old.link.target.listens ≡ false) }
     {
         let message = outgoing.message();
@@ -394,7 +394,7 @@ impl<J: Which, C: Connects<J>> PeerConnection<J, C> {
             return;
         }
         self.ask_ack(&message.body, now);
-        let _ = self.link.ask(outgoing, now);
+        let _ = self.link.ask(outgoing, name, now);
         if let Body::ReplicaOf(_) = message.body {
             let _ = self.link.look(now);
             self.look_at = Some(now.saturating_add(LOOK_MS));

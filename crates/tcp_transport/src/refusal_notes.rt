@@ -27,7 +27,7 @@ fn kind_of(question: Question) -> usize {
         Question::Publish => 5,
         Question::Follow { promotes: false } | Question::Exec { promotes: false } => 6,
         Question::Follow { promotes: true } | Question::Exec { promotes: true } => 7,
-        Question::Row => 8,
+        Question::Row | Question::Locate { .. } => 8,
         Question::Identity { .. } => 9,
         Question::Order | Question::Abort | Question::Hello => 10,
     }

@@ -149,17 +149,24 @@ impl<J: Which, C: Connects<J>> SaidLink<J, C> {
         self.link.forgive();
     }
 
-    /// Puts out a message to its node that may be said, where it is open; else the message is lost. A fault closes it.
+    /// Puts out a message to its node that may be said, where it is open; else the message is lost. A question is about
+    /// the master with this name: its answer tells nothing where its node has that master at another address. A fault
+    /// closes it.
     #[tactic(auto, using(crate::proofs::Sessions::whole_message, crate::proofs::Sessions::whole_closed))]
-    pub(crate) fn ask(&mut self, outgoing: &Outgoing<J>, now: u64) -> Result<(), LinkFault>
+    pub(crate) fn ask(
+        &mut self,
+        outgoing: &Outgoing<J>,
+        name: &[u8],
+        now: u64,
+    ) -> Result<(), LinkFault>
         requires target { self.old.target.node ≡ outgoing.now.target }
         requires speaks { self.old.target.listens ≡ false }
         ensures shut { self.old.schedule.stage ≢ Open → self.new ≡ self.old }
-        ensures ok { OnOk result (self.old.schedule.stage ≡ Open → self.new ≡ asked_at now outgoing.now.body self.old) }
+        ensures ok { OnOk result (self.old.schedule.stage ≡ Open → self.new ≡ asked_at now name.now outgoing.now.body self.old) }
         ensures err { OnErr result (self.new ≡ closed_at now self.old) }
         ensures target { self.new.target ≡ self.old.target }
     {
-        match self.link.ask(outgoing.message(), now) {
+        match self.link.ask(outgoing.message(), name, now) {
             Ok(()) => Ok(()),
             Err(fault) => {
                 self.socket = None;

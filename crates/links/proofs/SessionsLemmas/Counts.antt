@@ -7,7 +7,7 @@ use Rattle.resp2.specs.declared.framing.value.Value.{Value}
 use Rattle.resp2.specs.Framing.Frame.{Frame, view, frames_of}
 use Rattle.links.specs.declared.sessions.fault.LinkFault.{LinkFault}
 use Rattle.links.specs.declared.sessions.heard.Heard.{Heard}
-use Rattle.links.specs.Sessions.Links.{list_of, votes_of, number_in, listed, events_in, Grows}
+use Rattle.links.specs.Sessions.Links.{list_of, votes_of, number_in, place_in, listed, events_in, Grows}
 
 pub not_three : (items : List Value) → length items ≢ 3 → None ≡ votes_of (map view items)
 not_three [] other = refl
@@ -15,6 +15,16 @@ not_three (a ∷ []) other = refl
 not_three (a ∷ b ∷ []) other = refl
 not_three (a ∷ b ∷ c ∷ []) other = absurd (other refl)
 not_three (a ∷ b ∷ c ∷ d ∷ rest) other = refl
+
+-- a row ends before its port
+pub not_six : (items : List Value) → length items < 6 → None ≡ place_in (map view items)
+not_six [] short = refl
+not_six (a ∷ []) short = refl
+not_six (a ∷ b ∷ []) short = refl
+not_six (a ∷ b ∷ c ∷ []) short = refl
+not_six (a ∷ b ∷ c ∷ d ∷ []) short = refl
+not_six (a ∷ b ∷ c ∷ d ∷ e ∷ []) short = refl
+not_six (a ∷ b ∷ c ∷ d ∷ e ∷ f ∷ rest) short = absurd (omega (arith, short))
 
 pub list_of_frames : (fs : List Frame) → list_of (frames_of fs) ≡ fs
 list_of_frames [] = refl

@@ -10,7 +10,7 @@ use Rattle.links.specs.declared.sessions.fault.LinkFault.TheVariants as links
 use Rattle.links.specs.declared.sessions.questions.Question.{Question}
 use Rattle.links.specs.Sessions.Laws.{PiecesJoin}
 use Rattle.resp2.specs.Long.LongValues.{told_value, IsLongFrame, LongParts, long_frame_at, as_held}
-use Rattle.links.specs.Sessions.Links.{listed, heard_of, Tells, Because}
+use Rattle.links.specs.Sessions.Links.{listed, heard_of, follow_up, Tells, Because}
 use Rattle.resp2.proofs.LongLemmas.Values.{value_found, value_reads, tells_same, holds_same}
 
 tells-append : (node : NodeName) (listens : Bool) (asked middle left : List Question) (values more : List Frame) (events later : List Event)
@@ -25,7 +25,7 @@ tells-append node listens asked middle left (x ∷ xs) more events later a b = (
   a.4,
   a.5,
   ap (λ (t : List Event). t ++ later) a.6 ∙ append_assoc (listed a.2) a.3 later,
-  tells-append node listens a.1 middle left xs more a.3 later a.7 b,
+  tells-append node listens (follow_up a.0 (told_value x) ++ a.1) middle left xs more a.3 later a.7 b,
 )
 
 pub all_values : (xs ys : List Frame) → AllByRecursion IsLongFrame xs → AllByRecursion IsLongFrame ys → AllByRecursion IsLongFrame (xs ++ ys)
@@ -68,7 +68,16 @@ again node listens asked left bytes piece (value ∷ values) rest events p t =
       values = first.value ∷ values;
       after = rest;
       parts = (first.parts ∙ sym (append_assoc (spelling first.value) (flat_map spelling values) rest), (first.is, p.1.1));
-      tells = (t.0, t.1, t.2, t.3, t.4, ap (heard_of node t.0) (sym first.tells) ∙ t.5, t.6, t.7);
+      tells = (
+        t.0,
+        t.1,
+        t.2,
+        t.3,
+        t.4,
+        ap (heard_of node t.0) (sym first.tells) ∙ t.5,
+        t.6,
+        subst (λ (f : Frame). Tells node listens (follow_up t.0 f ++ t.1) values t.3 left) first.tells t.7,
+      );
       reads = refl;
       held = refl;
     }

@@ -16,7 +16,7 @@ use Rattle.links.specs.declared.sessions.fault.LinkFault.TheVariants as links
 use Rattle.links.specs.declared.sessions.heard.Heard.{Heard}
 use Rattle.links.specs.declared.sessions.questions.Question.{Question}
 use Rattle.resp2.specs.Long.LongValues.{told_value, IsLongFrame, LongParts, LongAnswers}
-use Rattle.links.specs.Sessions.Links.{next_asked, heard_of, listed, Tells, IsHeard, IsBroken, Because, Receives}
+use Rattle.links.specs.Sessions.Links.{next_asked, heard_of, follow_up, listed, Tells, IsHeard, IsBroken, Because, Receives}
 use Rattle.links.specs.Sessions.OnTheWay.{Told, Untold, IsOnTheWay, IsDone, Steps, Drains}
 use Rattle.links.proofs.SessionsLemmas.Joining.{all_values}
 use Rattle.resp2.proofs.LongLemmas.Values.{value_found}
@@ -26,7 +26,7 @@ module _ (node : NodeName) (listens : Bool) where
   pub tells-push : (asked : List Question) (values : List Frame) (events : List Event) (left : List Question) (value : Frame) (q : Question) (others : List Question) (heard :
       Heard)
       → Tells node listens asked values events left → next_asked listens left ≡ Some (q, others) → heard_of node q (told_value value) ≡ Ok heard
-      → Tells node listens asked (values ++ value ∷ []) (events ++ listed heard) others
+      → Tells node listens asked (values ++ value ∷ []) (events ++ listed heard) (follow_up q (told_value value) ++ others)
   tells-push asked [] events left value q others heard a next tells = (
     q,
     others,
@@ -45,7 +45,7 @@ module _ (node : NodeName) (listens : Bool) where
     a.4,
     a.5,
     ap (λ (t : List Event). t ++ listed heard) a.6 ∙ append_assoc (listed a.2) a.3 (listed heard),
-    tells-push a.1 xs a.3 left value q others heard a.7 next tells,
+    tells-push (follow_up a.0 (told_value x) ++ a.1) xs a.3 left value q others heard a.7 next tells,
   )
 
 -- after other values one more
@@ -79,6 +79,9 @@ pub open_is : (held : Held) (bytes : List ℕ) → held ≡ reading bytes → he
 open_is held bytes is = is ∙ ap reading (sym (ap bytes_in is))
 
 module _ (node : NodeName) (listens : Bool) (asked : List Question) where
+  abbrev IsToldSo : List Frame → List Event → List Question → Type 0
+  IsToldSo values events left = Tells node listens asked values events left
+
   -- a value was heard
   pub value_heard : (stream : List ℕ) (held after : Held) (events : List Event) (left others : List Question) (v : Value) (before read : List Event)
       → IsOnTheWay node listens asked stream held events left → LongAnswers view (bytes_in held) (Ok (Some v)) after
@@ -88,12 +91,15 @@ module _ (node : NodeName) (listens : Bool) (asked : List Question) where
       let next = answers_here a.rest held after (Ok (Some v)) a.held_is given in
       let found = value_found a.rest (view v) next.0 next.1 in
       let heard : heard_of node t.question (told_value found.value) ≡ Ok t.heard = ap (heard_of node t.question) (sym found.tells) ∙ t.tells in
+      let left_is : follow_up t.question (told_value found.value) ++ t.others ≡ others =
+      ap (λ (f : Frame). follow_up t.question f ++ t.others) (sym found.tells) ∙ sym t.left_is in
       record {
         values = a.values ++ found.value ∷ [];
         rest = next.0;
         held_is = next.2;
         parts = parts_push stream a.values a.rest found.value next.0 a.parts found.parts found.is;
-        tells = tells-push node listens asked a.values events left found.value t.question others t.heard a.tells t.next heard;
+        tells = subst (IsToldSo (a.values ++ found.value ∷ []) (events ++ listed t.heard)) left_is
+            (tells-push node listens asked a.values events left found.value t.question t.others t.heard a.tells t.next heard);
       }
 
   -- what came after the first events is there still, with what the value told

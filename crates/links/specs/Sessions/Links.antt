@@ -8,9 +8,9 @@ use Rattle.ballot_law.specs.declared.events.Event.TheVariants.{Answered, Pinged,
 use Rattle.ballot_law.specs.declared.messages.Body.{Body}
 use Rattle.ballot_law.specs.declared.messages.Body.TheVariants.{Ask, Ping, InfoAsk, Publish, ReplicaOf, HandOver}
 use Rattle.ballot_law.specs.declared.messages.NodeName.{NodeName}
-use Rattle.ballot_law.specs.Orders.{same_id}
+use Rattle.ballot_law.specs.Orders.{same_addr, same_id}
 use Rattle.ballot_law.specs.PingReplies.{reply_of}
-use Rattle.ballot_law.specs.Words.{then_some, some_if, run_id, number_within}
+use Rattle.ballot_law.specs.Words.{then_some, some_if, address, run_id, number_within}
 use Rattle.node_texts.specs.Messages.MessageTexts.{hello_channel}
 use Rattle.resp2.specs.Commands.{candidate, word}
 use Rattle.resp2.specs.Framing.Frame.{Frame, FrameList, no_frames, frame, simple, fault, int, bulk, items}
@@ -79,6 +79,34 @@ vote_of (items fs) = votes_of (list_of fs)
 vote_of _ = None
 
 -- ---- what a value tells: an event, that its question is refused, a row, nothing, or that it is no answer to its question
+
+-- ---- where another Sentinel has a master
+
+-- the address that a row tells, which begins with the master's name, its IP address and its port
+abbrev pub place_in : List Frame → Option Addr
+place_in (first ∷ name ∷ second ∷ ip ∷ third ∷ port ∷ row) =
+    if bytes_eq (word second) (codes "ip") && bytes_eq (word third) (codes "port") then address (word ip) (word port) else None
+place_in _ = None
+
+abbrev pub is_at : Addr → Option Addr → Bool
+is_at addr None = false
+is_at addr (Some other) = same_addr other addr
+
+-- the row tells this address
+abbrev pub tells_place : Addr → Frame → Bool
+tells_place addr (items fs) = is_at addr (place_in (list_of fs))
+tells_place addr _ = false
+
+-- what the next value answers then: the question whether the master is down, or what tells nothing
+abbrev pub located : (there : Bool) → (master : ℕ) → Addr → Question
+located true master addr = asks.Ask master addr
+located false master addr = asks.Order
+
+-- What is asked yet, once a value answered the question. Where another Sentinel has the master elsewhere than at the address that was asked about, its answer is about
+-- another master, or none, and tells nothing
+abbrev pub follow_up : Question → Frame → List Question
+follow_up (asks.Locate master addr) f = located (tells_place addr f) master addr ∷ []
+follow_up _ f = []
 
 -- the question is refused with this error, which tells the Sentinel nothing else
 abbrev pub refused : Question → (text : List ℕ) → Heard
@@ -207,6 +235,7 @@ heard_of node (asks.Follow promotes) f = Ok (follow_heard node promotes f)
 heard_of node (asks.Exec promotes) f = Ok (exec_heard node promotes f)
 heard_of node asks.Abort f = Ok replies.Nothing
 heard_of node asks.Row f = Ok (row_heard f)
+heard_of node (asks.Locate master addr) f = Ok (plain_heard (asks.Locate master addr) f)
 heard_of node asks.Order f = Ok (plain_heard asks.Order f)
 heard_of node (asks.Identity id) f = id_heard id f
 heard_of node asks.Hello f = hello_heard f
@@ -261,13 +290,14 @@ abbrev pub owes_hello : List Question → Bool
 owes_hello (asks.Publish ∷ asked) = true
 owes_hello _ = false
 
--- the values, in their order, answer the oldest questions, and what is told of them tells these events; the other questions are left
+-- the values, in their order, answer the oldest questions, and what is told of them tells these events; the other questions are left. A question of which more is
+-- asked yet has a second value
 abbrev pub Tells : NodeName → Bool → List Question → List Frame → List Event → List Question → Type 0
 Tells node listens asked [] events left = (events ≡ []) × (left ≡ asked)
 Tells node listens asked (value ∷ values) events left =
     (question : Question) × (others : List Question) × (heard : Heard) × (rest : List Event)
     × (next_asked listens asked ≡ Some (question, others)) × (heard_of node question (told_value value) ≡ Ok heard)
-    × (events ≡ listed heard ++ rest) × Tells node listens others values rest left
+    × (events ≡ listed heard ++ rest) × Tells node listens (follow_up question (told_value value) ++ others) values rest left
 
 -- how a piece is taken: `stream` is what was held before it, and then the piece
 

@@ -11,14 +11,16 @@ use Rattle.links.specs.declared.sessions.fault.LinkFault.TheVariants as links
 use Rattle.links.specs.declared.sessions.heard.Heard.{Heard}
 use Rattle.links.specs.declared.sessions.questions.Question.{Question}
 use Rattle.resp2.specs.Long.LongValues.{LongParts}
-use Rattle.links.specs.Sessions.Links.{next_asked, heard_of, listed, Tells, IsHeard, IsBroken}
+use Rattle.links.specs.Sessions.Links.{next_asked, heard_of, follow_up, listed, Tells, IsHeard, IsBroken}
 
 -- one value told what it tells
 pub record Told (node : NodeName) (listens : Bool) (asked : List Question) (value : Frame) (before after : List Event) (left : List Question) : Type 0 where
   pub question : Question
+  pub others : List Question
   pub heard : Heard
-  pub next : next_asked listens asked ≡ Some (question, left)
+  pub next : next_asked listens asked ≡ Some (question, others)
   pub tells : heard_of node question value ≡ Ok heard
+  pub left_is : left ≡ follow_up question value ++ others
   pub added : after ≡ before ++ listed heard
 
 -- why one value told nothing

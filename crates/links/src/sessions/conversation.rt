@@ -1,19 +1,19 @@
 //! What was asked over a connection, what came, and what isn't sent yet.
 
-ghost use Rattle.std.specs.Prelude.{◌≡◌, ◌↔◌, ◌≤◌, ◌<◌, ◌++◌, ◌∷◌, ℕ, List, [], map, length, drop, IsTrue, IsFalse, IfOk, IfErr, IfSome, IfNone, None, OnOk, OnErr};
+ghost use Rattle.std.specs.Prelude.{◌≡◌, ◌↔◌, ◌≤◌, ◌<◌, ◌++◌, ◌∷◌, ℕ, List, [], map, length, drop, IsTrue, IsFalse, IfOk, IfErr, IfSome, IfNone, None, OnOk, OnErr, option_to_list};
 ghost use Rattle.ballot_law.specs.declared.events.Event.{Event};
 ghost use Rattle.node_texts.specs.Messages.MessageTexts.{message_bytes, words_frame, IsWritable};
 ghost use Rattle.resp2.specs.Framing.Frame.{view, spelling};
 ghost use Rattle.resp2.specs.Framing.Stream.{reading, held_size, bytes_in};
 ghost use Rattle.links.specs.declared.sessions.questions.Question.{Question};
 ghost use Rattle.links.specs.Sessions.Links.{next_asked, listed, events_in, Grows, owes_hello, question_of, IsRefused, Receives};
-ghost use Rattle.links.specs.Speaking.{ack_bytes};
+ghost use Rattle.links.specs.Speaking.{ack_bytes, row_bytes};
 ghost use Rattle.links.specs.Sessions.OnTheWay.{IsOnTheWay, Steps, Drains, Told, Untold, closed_by};
 
 use crate::sessions::fault::LinkFault;
 use crate::sessions::heard::Heard;
 use crate::sessions::questions::{Question, question_of};
-use crate::sessions::replies::heard_of;
+use crate::sessions::replies::{follow_up, heard_of};
 use ballot_law::{Message, NoMemory, NodeName};
 use bytes::BytesMut;
 use node_texts::message_text;
@@ -179,6 +179,34 @@ impl Conversation {
         self.put_out(&text, question_of(&message.body))
     }
 
+    /// Puts out the question for the row of the master with this name, and then what a message says, and remembers what
+    /// their answers will be about, or changes nothing.
+    pub(crate) fn ask_behind_row(
+        &mut self,
+        name: &[u8],
+        message: &Message,
+        question: Question,
+    ) -> Result<(), LinkFault>
+        requires { IsWritable message.now.body }
+        ensures node { self.new.node ≡ self.old.node }
+        ensures listens { self.new.listens ≡ self.old.listens }
+        ensures frames { self.new.frames ≡ self.old.frames }
+        ensures ok { OnOk result ((self.new.unsent.items ≡ self.old.unsent.items ++ (row_bytes name.now ++ message_bytes message.now.body))
+            × (self.new.asked.items ≡ self.old.asked.items ++ question ∷ [])) }
+        ensures few { OnOk result (length self.new.asked.items ≤ ASKED_MAX) }
+        ensures err { OnErr result ((self.new.unsent.items ≡ self.old.unsent.items) × (self.new.asked.items ≡ self.old.asked.items)) }
+        ensures fault { IfErr result (IsRefused self.old.asked.items) }
+    {
+        let mut text = OutText::new(self.alloc);
+        if push_words(&mut text, &[b"SENTINEL", b"MASTER", name]).is_err() {
+            return Err(LinkFault::NoMemory);
+        }
+        if message_text(self.alloc, message, &mut text).is_err() {
+            return Err(LinkFault::NoMemory);
+        }
+        self.put_out(&text, question)
+    }
+
     /// Puts out a command of these words, and remembers what its answer will be about, or changes nothing.
     pub(crate) fn command(&mut self, words: &[&[u8]], question: Question) -> Result<(), LinkFault>
         ensures node { self.new.node ≡ self.old.node }
@@ -234,6 +262,24 @@ impl Conversation {
         None
     }
 
+    /// What the next value answers then, before all else that is asked.
+    fn go_on(&mut self, follow: Option<Question>) -> Result<(), LinkFault>
+        ensures node { self.new.node ≡ self.old.node }
+        ensures listens { self.new.listens ≡ self.old.listens }
+        ensures frames { self.new.frames ≡ self.old.frames }
+        ensures unsent { self.new.unsent.items ≡ self.old.unsent.items }
+        ensures ok { OnOk result (self.new.asked.items ≡ option_to_list follow ++ self.old.asked.items) }
+        ensures fault { IfErr result (λ fault. fault ≡ LinkFault.NoMemory) }
+    {
+        match follow {
+            Some(question) => match self.asked.push_front(question) {
+                Ok(()) => Ok(()),
+                Err(_) => Err(LinkFault::NoMemory),
+            },
+            None => Ok(()),
+        }
+    }
+
     /// Adds what a value tells that answers the oldest question.
     #[tactic(auto, using(crate::proofs::SessionsLemmas::Counts::grows_none, crate::proofs::SessionsLemmas::Counts::grows_twice))]
     fn hear_value(&mut self, value: Value, heard: &mut Vec<Heard>) -> Result<(), LinkFault>
@@ -249,6 +295,7 @@ impl Conversation {
         let Some(question) = self.next_question() else {
             return Err(LinkFault::Unasked);
         };
+        self.go_on(follow_up(question, &value))?;
         match heard_of(self.node, question, value) {
             Ok(told) => add_heard(heard, told),
             Err(fault) => Err(fault),

@@ -6,7 +6,7 @@ ghost use Rattle.node_texts.specs.Messages.MessageTexts.{message_bytes, words_fr
 ghost use Rattle.resp2.specs.Framing.Frame.{spelling};
 ghost use Rattle.links.specs.declared.sessions.questions.Question.TheVariants as asks;
 ghost use Rattle.links.specs.Sessions.Links.{question_of, events_in, Grows, owes_hello, IsRefused, Receives};
-ghost use Rattle.links.specs.Speaking.{ack_bytes};
+ghost use Rattle.links.specs.Speaking.{ack_bytes, row_bytes};
 
 use crate::sessions::conversation::{ASKED_MAX, Conversation};
 use crate::sessions::fault::LinkFault;
@@ -80,6 +80,26 @@ impl LinkSession {
         ensures fault { IfErr result (IsRefused self.old.asked) }
     {
         self.talk.ask(message)
+    }
+
+    /// Puts out the question for the row of the master with this name, and then what a message says, and remembers what
+    /// their answers will be about. A refusal, as of `ask`, changes nothing.
+    pub(crate) fn ask_behind_row(
+        &mut self,
+        name: &[u8],
+        message: &Message,
+        question: Question,
+    ) -> Result<(), LinkFault>
+        requires { IsWritable message.now.body }
+        ensures ok { OnOk result (self.new ≡ record self.old {
+          unsent = self.old.unsent ++ (row_bytes name.now ++ message_bytes message.now.body);
+          asked = self.old.asked ++ question ∷ [];
+        }) }
+        ensures few { OnOk result (length self.new.asked ≤ ASKED_MAX) }
+        ensures err { OnErr result (self.new ≡ self.old) }
+        ensures fault { IfErr result (IsRefused self.old.asked) }
+    {
+        self.talk.ask_behind_row(name, message, question)
     }
 
     /// Puts out a command of these words, and remembers what its answer will be about. A refusal, as of `ask`, changes
@@ -178,10 +198,11 @@ impl LinkSession {
     /// it, in their order.
     ///
     /// A value answers the oldest question: a PING's is `Pinged`, an INFO's `InfoRead`, and the answer to the question
-    /// whether a master is down is `Answered` with the master and the address of that question; the answers to other
-    /// messages tell nothing. An error refuses its question: the Sentinel is told of it in answer to a PING, to an
-    /// order to hand over, and to the order that promotes its node. On a connection that listens each value after the
-    /// answers is a hello that a data node passes on.
+    /// whether a master is down is `Answered` with the master and the address of that question, unless the row before
+    /// it, where one was asked for, has another address; the answers to other messages tell nothing. An error refuses
+    /// its question: the Sentinel is told of it in answer to a PING, to an order to hand over, and to the order that
+    /// promotes its node. On a connection that listens each value after the answers is a hello that a data node passes
+    /// on.
     ///
     /// `Unread` where the bytes are no RESP2, `Unasked` and `Strange` where a value answers no question or not its own,
     /// as where a Sentinel names another run id than it is to have, and `NoMemory`: what the values before told was

@@ -27,6 +27,9 @@ pub enum Question {
     Abort,
     /// The answer to SENTINEL MASTER: another Sentinel's row of that master.
     Row,
+    /// The answers to SENTINEL MASTER and to the question whether that master at this address is down, first the row:
+    /// where that has another address, or none, the second answer tells nothing.
+    Locate { master: u16, addr: Addr },
     /// An answer that tells nothing, unless it is an error, as that to AUTH or SUBSCRIBE.
     Order,
     /// The answer to SENTINEL MYID of a Sentinel that is to have this run id.

@@ -1,17 +1,17 @@
 //! What a reply tells.
 
-ghost use Rattle.std.specs.Prelude.{◌≡◌, map, None, Some};
+ghost use Rattle.std.specs.Prelude.{◌≡◌, map, None, Some, option_to_list};
 ghost use Rattle.resp2.specs.Commands as commands;
 ghost use Rattle.resp2.specs.Framing.Frame.{view, frames_view};
 ghost use Rattle.links.specs.declared.sessions.heard.Heard.TheVariants as replies;
-ghost use Rattle.links.specs.Sessions.Links.{is_down, epoch_of, leader_of, votes_of, refused, refused_as, plain_heard, ping_heard, info_heard, answered, ask_heard, hand_over_heard, unpromoted, follow_heard, exec_in, exec_heard, number_in, row_in, told_row, row_heard, named, id_heard, heard_of, is_word, is_confirmed, begins_message, hello_of_list, hello_heard};
+ghost use Rattle.links.specs.Sessions.Links.{is_down, epoch_of, leader_of, votes_of, refused, refused_as, plain_heard, ping_heard, info_heard, answered, ask_heard, hand_over_heard, unpromoted, follow_heard, exec_in, exec_heard, number_in, row_in, place_in, is_at, tells_place, located, follow_up, told_row, row_heard, named, id_heard, heard_of, is_word, is_confirmed, begins_message, hello_of_list, hello_heard};
 
 use crate::sessions::fault::LinkFault;
 use crate::sessions::heard::{Heard, Refusal, Row};
 use crate::sessions::questions::Question;
 use ballot_law::{Addr, Event, MAX_EPOCH, NodeName, PingReply, RunId, Text};
 use resp2::{Value, word_of};
-use tokens::{number_of, run_id_of};
+use tokens::{address_of, number_of, run_id_of};
 
 /// The channel on which Sentinels publish their hellos.
 pub(crate) const HELLO_CHANNEL: &[u8] = b"__sentinel__:hello";
@@ -290,6 +290,62 @@ fn row_in(row: &[Value]) -> Option<Row>
     })
 }
 
+/// The address that a row tells, which begins with the master's name, its IP address and its port.
+fn place_in(row: &[Value]) -> Option<Addr>
+    ensures { result ≡ place_in (map view row.now) }
+{
+    let [_, _, second, ip, third, port, ..] = row else {
+        return None;
+    };
+    if word_of(second) == b"ip".as_slice() && word_of(third) == b"port".as_slice() {
+        return address_of(word_of(ip), word_of(port));
+    }
+    None
+}
+
+/// Whether the address that a row tells is this one.
+fn is_at(addr: Addr, place: Option<Addr>) -> bool
+    ensures { result ≡ is_at addr place }
+{
+    match place {
+        Some(other) => other.is_same(&addr),
+        None => false,
+    }
+}
+
+/// Whether the value is a row that tells this address.
+fn tells_place(addr: Addr, value: &Value) -> bool
+    ensures { result ≡ tells_place addr (view value.now) }
+{
+    match value {
+        Value::Items(items) => is_at(addr, place_in(items.as_slice())),
+        _ => false,
+    }
+}
+
+/// What the value after a row answers.
+fn located(there: bool, master: u16, addr: Addr) -> Question
+    ensures { result ≡ located there master addr }
+{
+    if there {
+        Question::Ask { master, addr }
+    } else {
+        Question::Order
+    }
+}
+
+/// What the value after this one answers, where the question has a second answer.
+pub(crate) fn follow_up(question: Question, value: &Value) -> Option<Question>
+    ensures { option_to_list result ≡ follow_up question (view value.now) }
+{
+    match question {
+        Question::Locate { master, addr } => {
+            Some(located(tells_place(addr, value), master, addr))
+        }
+        _ => None,
+    }
+}
+
 /// What a row tells; one that lacks a number tells nothing.
 fn told_row(row: Option<Row>) -> Heard
     ensures { result ≡ told_row row }
@@ -381,7 +437,9 @@ pub(crate) fn heard_of(node: NodeName, question: Question, value: Value) -> Resu
         Question::Exec { promotes } => Ok(exec_heard(node, promotes, value)),
         Question::Abort => Ok(Heard::Nothing),
         Question::Row => Ok(row_heard(value)),
-        Question::Publish | Question::Order => Ok(plain_heard(question, value)),
+        Question::Publish | Question::Order | Question::Locate { .. } => {
+            Ok(plain_heard(question, value))
+        }
         Question::Identity { id } => id_heard(id, value),
         Question::Hello => hello_heard(value),
     }

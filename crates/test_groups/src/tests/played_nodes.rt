@@ -67,9 +67,12 @@ const UNKNOWN: &[u8] = b"-ERR unknown command\r\n";
 /// How a message of the channel begins.
 const MESSAGE: &[u8] = b"*3\r\n$7\r\nmessage\r\n$18\r\n__sentinel__:hello\r\n";
 
-/// What another Sentinel's row of the master says of its file.
+/// Another Sentinel's row of the master, up to its port, and what it says of its file.
 const ROW: &[u8] =
-    b"*6\r\n$10\r\nnum-slaves\r\n$1\r\n1\r\n$19\r\nnum-other-sentinels\r\n$1\r\n2\r\n\
+    b"*12\r\n$4\r\nname\r\n$8\r\nmymaster\r\n$2\r\nip\r\n$9\r\n127.0.0.1\r\n$4\r\nport\r\n";
+
+const ROW_NUMBERS: &[u8] =
+    b"$10\r\nnum-slaves\r\n$1\r\n1\r\n$19\r\nnum-other-sentinels\r\n$1\r\n2\r\n\
 $6\r\nquorum\r\n$1\r\n2\r\n";
 
 /// INFO of a replica that was promoted.
@@ -325,7 +328,9 @@ impl Cast {
             return push_bulk(answers, id.as_bytes());
         }
         if name.eq_ignore_ascii_case(b"MASTER") {
-            return answers.add(ROW);
+            answers.add(ROW)?;
+            push_bulk(answers, self.texts.master_port.as_bytes())?;
+            return answers.add(ROW_NUMBERS);
         }
         answers.add(UNKNOWN)
     }
