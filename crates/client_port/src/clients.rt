@@ -351,6 +351,19 @@ impl Clients {
         }
     }
 
+    /// Closes the connections of other Sentinels.
+    pub(crate) fn close_peers(&mut self) {
+        for key in 0..self.connections.capacity() {
+            let is_peer = match self.connections.get(key) {
+                Some(connection) => connection.is_peer(),
+                None => false,
+            };
+            if is_peer {
+                self.close(key);
+            }
+        }
+    }
+
     /// The clients are those of this Sentinel's port.
     pub(crate) fn serve_for<J: Which, S: ConfStore>(&mut self, member: &RunningSentinel<J, S>) {
         self.roll.serve(member);

@@ -247,6 +247,11 @@ impl<T: Drop> Connection<T> {
         }
     }
 
+    /// Whether it is one of another Sentinel.
+    pub(crate) fn is_peer(&self) -> bool {
+        self.origin.is_peer
+    }
+
     /// In which line it waits where it has something to do.
     pub(crate) fn line(&self) -> Line
         ensures { result ≡ line_of self.now.reach self.now.origin.is_peer }

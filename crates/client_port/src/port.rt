@@ -168,6 +168,20 @@ impl Port {
         unreachable!()
     }
 
+    /// The number of its thread: that of the first one is 0.
+    pub fn thread(&self) -> u16
+        ensures { result ≡ self.now.thread }
+    {
+        self.thread
+    }
+
+    /// Closes the connections of other Sentinels, since those are to one life of this Sentinel alone; its clients stay.
+    pub fn end_life(&mut self)
+        ensures { self.new.clients.terms ≡ self.old.clients.terms }
+    {
+        self.clients.close_peers();
+    }
+
     /// Notes of which connections the system told, and takes in new ones.
     fn note_events<J: Which, S: ConfStore, R: Wait + Clock + Log>(
         &mut self,

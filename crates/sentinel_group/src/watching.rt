@@ -23,19 +23,20 @@ use ballot_law::Text;
 use clap::ArgMatches;
 use client_port::{Admission, PortAddress, ReadsTimes};
 use log::{LevelFilter, Log, info};
-use sentinel_conf::{Conf, ConfStore, WatchConf, WatchFault, WatchKind, read_watch};
+use sentinel_conf::{Conf, ConfStore, WatchConf, WatchFault, WatchKind, read, read_watch};
 use sentinel_core::ServeFault;
 use sentinel_rules::Profile;
 use sentinel_runner::{
-    GroupFault, LoadedConf, PortSettings, Unloaded, Watch, WatchSettings, reboots_of,
+    GroupFault, LoadedConf, PortSettings, Renewal, Unloaded, Watch, WatchSettings, reboots_of,
 };
 use std::alloc::{AllocError, Global};
 use std::net::{Ipv4Addr, Net, SocketAddr};
 use std::process::ExitCode;
 use std::rt::Clock;
+use std::str::from_utf8;
 use std::sync::Wait;
 use std::thread::Threads;
-use tcp_transport::Logins;
+use tcp_transport::{Found, Logins};
 
 /// Why a Sentinel didn't run, or ended.
 #[derive(Drop)]
@@ -284,11 +285,88 @@ fn note_begin<R: Log>(rt: HostRuntime, noting: &R, path: &str, conf: &Conf, text
     note_foreign_ip(rt, noting, path, conf);
 }
 
+/// The text with one replica more.
+fn grown_text(alloc: Global, conf: &Conf, text: &[u8], found: Found) -> Option<Vec<u8>> {
+    let watched = conf.roster().masters().get(usize::from(found.master))?;
+    let (ip, port) = (Ipv4Addr::from(found.addr.ip), found.addr.port);
+    let mut grown = Vec::from_slice(alloc, text).ok()?;
+    grown.extend_from_slice(b"sentinel known-replica ").ok()?;
+    grown.extend_from_slice(watched.name.as_slice()).ok()?;
+    let place = format!(in alloc; " {ip} {port}\n").ok()?;
+    grown.extend_from_slice(place.as_bytes()).ok()?;
+    Some(grown)
+}
+
+/// Stores the file of the next life, and opens that: the same as before, with the replica for which the one before
+/// ended. A text that is refused is not stored.
+fn next_life<R, S: ConfStore + Drop + Send>(
+    rt: HostRuntime,
+    noting: &R,
+    path: &str,
+    store: S,
+    port: PortSettings,
+    renewal: Renewal,
+) -> Result<Watch<S>, GroupFault>
+where
+    R: Threads + Wait + Net + Clock + ReadsTimes + Log + Sync,
+{
+    let Ok(loaded) = LoadedConf::load(rt.alloc(), store) else {
+        return Err(GroupFault::Halted);
+    };
+    let (conf, text, mut store) = loaded.into_parts();
+    let Some(grown) = grown_text(rt.alloc(), &conf, text.as_slice(), renewal.found) else {
+        return Err(GroupFault::NoMemory);
+    };
+    if read(rt.alloc(), grown.as_slice()).is_ok() && store.replace(grown.as_slice()).is_err() {
+        return Err(GroupFault::Halted);
+    }
+    let Ok(loaded) = LoadedConf::load(rt.alloc(), store) else {
+        return Err(GroupFault::Halted);
+    };
+    let Ok(settings) = settings_of(rt, path, loaded.conf(), loaded.text(), port) else {
+        return Err(GroupFault::Halted);
+    };
+    let Found { master, addr } = renewal.found;
+    if let Some(watched) = loaded.conf().roster().masters().get(usize::from(master)) {
+        let name = from_utf8(watched.name.as_slice()).unwrap_or("?");
+        let ip = Ipv4Addr::from(addr.ip);
+        info!(noting; "a new life begins: the replica {ip}:{} of {name} is in the file now", addr.port);
+    }
+    Watch::next(noting, rt.alloc(), loaded, settings, renewal)
+}
+
+/// Runs the lives of a Sentinel, one after the other, the first of which is open: how the last one ended.
+fn run_lives<R, S: ConfStore + Drop + Send>(
+    rt: HostRuntime,
+    noting: &R,
+    path: &str,
+    first: Watch<S>,
+    port: PortSettings,
+) -> Result<(), GroupFault>
+where
+    R: Threads + Wait + Net + Clock + ReadsTimes + Log + Sync,
+{
+    let mut watch = first;
+    for _ in noting.forever() {
+        let (left, ended) = watch.run(noting);
+        let Some(renewal) = ended? else {
+            return Ok(());
+        };
+        let Some(keeper) = left else {
+            return Err(GroupFault::NoMemory);
+        };
+        watch = next_life(rt, noting, path, keeper.store, port, renewal)?;
+    }
+    unreachable!()
+}
+
 /// Runs a Sentinel whose port is open, and keeps its ready file meanwhile.
 fn run_ready<R, S: ConfStore + Drop + Send>(
     rt: HostRuntime,
     noting: &R,
+    path: &str,
     watch: Watch<S>,
+    port: PortSettings,
     ready: ReadyFile<'_>,
 ) -> Result<(), Unwatched>
 where
@@ -297,8 +375,7 @@ where
     if let Err(status) = ready.open(rt, noting) {
         return Err(Unwatched::Refused(status));
     }
-    let (left, ended) = watch.run(noting);
-    drop(left);
+    let ended = run_lives(rt, noting, path, watch, port);
     ready.close(rt);
     match ended {
         Ok(()) => Ok(()),
@@ -327,7 +404,7 @@ where
         Err(status) => return Err(Unwatched::Refused(status)),
     };
     let ended = match Watch::open(noting, rt.alloc(), loaded, settings) {
-        Ok(watch) => run_ready(rt, noting, watch, ready),
+        Ok(watch) => run_ready(rt, noting, path.named(), watch, port_of(words), ready),
         Err(fault) => Err(Unwatched::Fault(fault)),
     };
     drop(lock);

@@ -3,3 +3,4 @@ pub mod Groups
 pub mod Opening
 pub mod Orders
 pub mod Watches
+pub mod Lives

@@ -27,4 +27,4 @@ pub use log_queue::{NoteForm, NoteQueue, NoteWriter, WAITING_MAX};
 pub use node_parts::{ServesNodes, WithPorts, WithoutPorts};
 pub use opened::{PORT_THREADS_MAX, PortSettings};
 pub use reboots::reboots_of;
-pub use watch::{Watch, WatchSettings};
+pub use watch::{Ended, Renewal, Watch, WatchSettings};

@@ -351,7 +351,7 @@ impl<J: Which, S: ConfStore, R: Wait + Clock + ReadsTimes + Log> Work<LifeOf<'_,
             LifeTask::Link(HearsAll { of: _ }) => {
                 run_link(rt, state, links, member, &mut seat, deliveries, stop)
             }
-            LifeTask::Port(port) => serve_port(rt, state, member, &mut seat, port, stop),
+            LifeTask::Port(port) => drop(serve_port(rt, state, member, &mut seat, port, stop)),
         }
         drop(back.send(rt, seat));
     }

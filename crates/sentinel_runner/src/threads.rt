@@ -93,7 +93,7 @@ where
     })
 }
 
-/// Serves what a thread serves of a Sentinel's port until `ending` isn't 0. Then it is closed.
+/// Serves what a thread serves of a Sentinel's port until `ending` isn't 0: that port.
 pub(crate) fn serve_port<J: Which, S: ConfStore, R: Wait + Clock + ReadsTimes + Log>(
     rt: &R,
     state: &RunState,
@@ -101,11 +101,11 @@ pub(crate) fn serve_port<J: Which, S: ConfStore, R: Wait + Clock + ReadsTimes + 
     seat: &mut ThreadSeat<J>,
     mut port: Port,
     ending: &AtomicU64,
-) {
+) -> Port {
     if let Err(error) = port.serve(rt, state, member, seat, ending) {
         note_lost(state, &error);
     }
-    drop(port);
+    port
 }
 
 /// The seats that came back; none where memory was refused.

@@ -18,13 +18,13 @@ ghost use Rattle.tcp_transport.specs.Places.{IsOfRoster, IsPlaceOf};
 use crate::group::outcome;
 use crate::group_fault::GroupFault;
 use crate::loaded_conf::LoadedConf;
-use crate::opened::{Opened, OpenedWith, PortSettings, fault_of};
+use crate::opened::{Opened, OpenedWith, PORT_THREADS_MAX, PortSettings, fault_of};
 use crate::threads::{
     Ending, Part, Work, close, end_for_want, none_for_want, note_lost, parts_of, run_parts,
     serve_port,
 };
 use client_port::{Admission, Port, PortAddress, PortRoom, ReadsTimes, Sockets, seats_beside};
-use crossbeam_channel::Receiver;
+use crossbeam_channel::{Receiver, Sender, unbounded};
 use links::connection_count;
 use log::{Log, info, warn};
 use sentinel_cell::Keeper;
@@ -40,7 +40,7 @@ use std::sync::atomic::{AtomicU64, Ordering};
 use std::thread::{self, Threads};
 use std::time::Duration;
 use tcp_transport::{
-    Connections, Connects, Logins, NetSockets, PlannedConnections, TickLoop, WatchState,
+    Connections, Connects, Found, Logins, NetSockets, PlannedConnections, TickLoop, WatchState,
 };
 
 /// How many threads use a Sentinel beside those of its port: that of its ticks.
@@ -82,6 +82,51 @@ pub struct Watch<S: ConfStore> {
     watching: Watching<S>,
     wires: PlannedConnections,
     state: WatchState,
+}
+
+/// For what a life ended: the next one is to begin with this replica in its file, and with what its port's threads
+/// served, in whichever order they ended.
+#[derive(Drop)]
+pub struct Renewal {
+    /// The replica that no file names.
+    pub found: Found,
+    ports: Vec<Port>,
+}
+
+/// How a life ended: without a fault it is to end for good, or the next one is to begin.
+pub type Ended = Result<Option<Renewal>, GroupFault>;
+
+/// What threads serve of a port, in the order of their numbers: the first one, and the others; none where one is gone.
+fn parted(alloc: Global, ports: Vec<Port>, threads: u16) -> Option<(Port, Vec<Port>)>
+    ensures { IfSome result (λ parts. length parts.1.items + 1 ≡ threads) }
+{
+    let mut first = None;
+    let mut others = Vec::new(alloc);
+    for mut port in ports {
+        port.end_life();
+        if port.thread() == 0 {
+            first = Some(port);
+        } else {
+            others.push(port).ok()?;
+        }
+    }
+    if others.len() + 1 != usize::from(threads) {
+        return None;
+    }
+    Some((first?, others))
+}
+
+/// What the threads of a Sentinel share that has just been opened. Where nobody has to be waited for, since no other
+/// Sentinel is there or this one wasn't away, clients are answered at once.
+fn state_of<R: Clock>(rt: &R, waits: bool) -> WatchState {
+    WatchState {
+        run: RunState::new(GroupClock::start(rt)),
+        turned: AtomicU64::new(0),
+        stood: AtomicU64::new(0),
+        ending: AtomicU64::new(0),
+        heard: AtomicU64::new(u64::from(!waits)),
+        found: AtomicU64::new(0),
+    }
 }
 
 /// Stores what the conf keeps, once: so it is known that its file can be written.
@@ -277,17 +322,53 @@ impl<S: ConfStore + Drop> Watch<S> {
         let is_alone = conf.roster().sentinels().len() < 2;
         let opened = opened_of(alloc, conf, store, reboots, ports, room)?;
         note_room(rt, number, wanted, &admission);
-        let state = WatchState {
-            run: RunState::new(GroupClock::start(rt)),
-            turned: AtomicU64::new(0),
-            stood: AtomicU64::new(0),
-            ending: AtomicU64::new(0),
-            heard: AtomicU64::new(u64::from(is_alone)),
-        };
         Ok(Watch {
             watching: Watching { opened, alloc },
             wires,
-            state,
+            state: state_of(rt, !is_alone),
+        })
+    }
+
+    /// Opens the next life of a Sentinel, by the conf that its store holds now, with the port of the life before: its
+    /// clients stay, and the connections of other Sentinels are closed. The clock begins anew.
+    ///
+    /// `Halted` where the store refuses the text, `PortRefused` where a part of the port is gone, and `NoMemory`:
+    /// `NotOneRoster` never comes.
+    #[tactic(auto, using(crate::proofs::Opening::opens_as))]
+    pub fn next<R: Net + Clock + Log>(
+        rt: &R,
+        alloc: Global,
+        loaded: LoadedConf<S>,
+        settings: WatchSettings,
+        renewal: Renewal,
+    ) -> Result<Watch<S>, GroupFault>
+        requires { S.failure_count loaded.store < 2 ^ 64 - 1 }
+        ensures held { IfOk result (λ watch. IfSome (S.held loaded.store)
+            (λ bytes. conf_of_bytes bytes ≡ Ok watch.watching.opened.fresh.cell.start.plan.conf)) }
+        ensures start { IfOk result (λ watch. IsOpenedAnew loaded.conf settings.port.profile settings.reboots.items 0
+            watch.watching.opened.fresh.cell.start) }
+        ensures wires { IfOk result (λ watch. (watch.wires.roster ≡ loaded.conf.roster) × IsPlaceOf loaded.conf.roster loaded.conf.id watch.wires.own) }
+        ensures logins { IfOk result (λ watch. watch.wires.logins ≡ settings.logins) }
+        ensures roster { IfErr result (λ fault. fault ≢ NotOneRoster) }
+    {
+        let WatchSettings {
+            addresses: _,
+            port,
+            admission,
+            logins,
+            reboots,
+        } = settings;
+        let (conf, _, store) = loaded.into_parts();
+        let wires = wires_of(rt, alloc, &conf, logins)?;
+        let room = room_of(rt, alloc, &conf, port, &admission)?;
+        let Some(ports) = parted(alloc, renewal.ports, room.threads()) else {
+            return Err(GroupFault::PortRefused);
+        };
+        let opened = opened_of(alloc, conf, store, reboots, ports, room)?;
+        Ok(Watch {
+            watching: Watching { opened, alloc },
+            wires,
+            state: state_of(rt, false),
         })
     }
 
@@ -302,7 +383,7 @@ impl<S: ConfStore + Drop> Watch<S> {
     pub fn run<R: Threads + Wait + Net + Clock + ReadsTimes + Log + Sync>(
         self,
         rt: &R,
-    ) -> (Option<Keeper<S>>, Result<(), GroupFault>)
+    ) -> (Option<Keeper<S>>, Ended)
     where
         S: Send,
         ensures left { IfSome result.0 (IsLeftByTurns (λ event. Unit {0}) S.held S.failure_count self.watching.opened.fresh.cell.start) }
@@ -314,8 +395,14 @@ impl<S: ConfStore + Drop> Watch<S> {
             wires,
             state,
         } = self;
-        let left = run_named::<Brand, S, R, R>(rt, rt, &state, watching, wires);
-        let ended = ended(&state.run, left.is_some());
+        let (left, ports) = run_named::<Brand, S, R, R>(rt, rt, &state, watching, wires);
+        let ended = match ended(&state.run, left.is_some()) {
+            Ok(()) => Ok(Found::of_word(state.found.load(Ordering::SeqCst)).map(|found| Renewal {
+                found,
+                ports,
+            })),
+            Err(fault) => Err(fault),
+        };
         (left, ended)
     }
 }
@@ -339,7 +426,7 @@ fn run_named<J: Which + Send + Sync, S: ConfStore + Drop + Send, R, N: Net>(
     state: &WatchState,
     watching: Watching<S>,
     wires: PlannedConnections,
-) -> Option<Keeper<S>>
+) -> (Option<Keeper<S>>, Vec<Port>)
 where
     R: Threads + Wait + Clock + ReadsTimes + Log + Sync,
     requires named { watching.opened.fresh.cell.id ≡ J.cell }
@@ -347,7 +434,7 @@ where
     requires notes { (note : Note) (number : ℕ) → IsNoted watching.opened.fresh.cell.start note number → ∥ J.noted note number ∥₁ }
     requires told { (event : Event) → ∥ J.told event ∥₁ }
     requires reaches { (target : Target) → IsOfRoster wires.roster target → ∥ J.reaches target ∥₁ }
-    ensures { IfSome result (IsLeftByTurns J.told S.held S.failure_count watching.opened.fresh.cell.start) }
+    ensures { IfSome result.0 (IsLeftByTurns J.told S.held S.failure_count watching.opened.fresh.cell.start) }
 {
     run_over::<J, S, NetSockets<'_, J, N>, R>(rt, NetSockets::of(net), state, watching, wires)
 }
@@ -361,14 +448,14 @@ fn run_over<J: Which + Send + Sync, S: ConfStore + Drop + Send, C: Connects<J> +
     state: &WatchState,
     watching: Watching<S>,
     wires: PlannedConnections,
-) -> Option<Keeper<S>>
+) -> (Option<Keeper<S>>, Vec<Port>)
 where
     R: Threads + Wait + Clock + ReadsTimes + Log + Sync,
     requires named { watching.opened.fresh.cell.id ≡ J.cell }
     requires says { (message : Message) → IsReleased watching.opened.fresh.cell.start message → ∥ J.said message ∥₁ }
     requires notes { (note : Note) (number : ℕ) → IsNoted watching.opened.fresh.cell.start note number → ∥ J.noted note number ∥₁ }
     requires reaches { (target : Target) → IsOfRoster wires.roster target → ∥ J.reaches target ∥₁ }
-    ensures { IfSome result (IsLeftByTurns J.told S.held S.failure_count watching.opened.fresh.cell.start) }
+    ensures { IfSome result.0 (IsLeftByTurns J.told S.held S.failure_count watching.opened.fresh.cell.start) }
 {
     let Watching { opened, alloc } = watching;
     let Opened {
@@ -384,7 +471,7 @@ where
     let Ok((member, seat)) = made else {
         drop(port);
         drop(wires);
-        return none_for_want(&state.run, &state.ending);
+        return (none_for_want(&state.run, &state.ending), Vec::new(alloc));
     };
     let (wires, far) = match wires.named::<J, C>(sockets) {
         Ok(both) => both,
@@ -393,7 +480,7 @@ where
             drop(seat);
             drop(port);
             note_lost(&state.run, &error);
-            return None;
+            return (None, Vec::new(alloc));
         }
     };
     far.guard(&member);
@@ -401,14 +488,25 @@ where
     let Ok((parts, back)) = watch_parts(alloc, &member, seat, ticks, (port, others)) else {
         drop(member);
         drop(wires);
-        return none_for_want(&state.run, &state.ending);
+        return (none_for_want(&state.run, &state.ending), Vec::new(alloc));
+    };
+    let Ok((to_here, served)) = unbounded(alloc) else {
+        return (none_for_want(&state.run, &state.ending), Vec::new(alloc));
     };
     let watch = WatchOf {
         member: &member,
         state,
+        ports: &to_here,
     };
     run_parts(rt, &watch, parts, wires);
-    close(rt, alloc, member, &back)
+    let mut ports = Vec::new(alloc);
+    for _ in 0..PORT_THREADS_MAX {
+        match served.try_recv(rt) {
+            Ok(port) => drop(ports.push(port)),
+            Err(_) => break,
+        }
+    }
+    (close(rt, alloc, member, &back), ports)
 }
 
 /// What a thread of a Sentinel of its own does.
@@ -463,6 +561,7 @@ fn await_hellos<R: Clock>(rt: &R, state: &WatchState) {
 struct WatchOf<'a, J: Which, S: ConfStore> {
     member: &'a RunningSentinel<J, S>,
     state: &'a WatchState,
+    ports: &'a Sender<Port>,
 }
 
 impl<J: Which, S: ConfStore> Ending for WatchOf<'_, J, S> {
@@ -479,7 +578,11 @@ impl<J: Which, S: ConfStore, R: Wait + Clock + ReadsTimes + Log> Work<WatchOf<'_
             mut seat,
             back,
         } = self;
-        let WatchOf { member, state } = *watch;
+        let WatchOf {
+            member,
+            state,
+            ports,
+        } = *watch;
         match task {
             WatchTask::Ticks(mut ticks) => {
                 ticks.run(rt, state, member, &mut seat);
@@ -487,7 +590,8 @@ impl<J: Which, S: ConfStore, R: Wait + Clock + ReadsTimes + Log> Work<WatchOf<'_
             }
             WatchTask::Port(port) => {
                 await_hellos(rt, state);
-                serve_port(rt, &state.run, member, &mut seat, port, &state.ending)
+                let port = serve_port(rt, &state.run, member, &mut seat, port, &state.ending);
+                drop(ports.send(rt, port));
             }
         }
         state.ending.store(1, Ordering::SeqCst);

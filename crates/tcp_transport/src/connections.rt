@@ -11,6 +11,7 @@ ghost use Rattle.tcp_transport.specs.declared.connections.PlannedWire.{PlannedWi
 
 use crate::exchange::{Outgoing, SentinelEnd, TransportEnd, WatchState, exchange};
 use crate::fault_notes::note_ended;
+use crate::found::Finds;
 use crate::logins::Logins;
 use crate::peer_connection::PeerConnection;
 use crate::refusal_notes::RefusalNotes;
@@ -80,6 +81,7 @@ pub struct Connections<J: Which, C: Connects<J>> {
     refusals: RefusalNotes,
     keep_ms: u64,
     rows: RowNotes,
+    finds: Finds,
     room: Vec<u8>,
     alloc: Global,
 }
@@ -233,7 +235,7 @@ impl PlannedConnections {
             told,
             plans,
             roster,
-            own: _,
+            own,
             logins,
             epoch,
             room,
@@ -253,6 +255,7 @@ impl PlannedConnections {
             refusals: RefusalNotes::new(alloc),
             keep_ms,
             rows: RowNotes::new(),
+            finds: Finds::of(own),
             room,
             alloc,
         };
@@ -329,7 +332,16 @@ impl<J: Which, C: Connects<J>> Connections<J, C> {
             if is_ending {
                 wire.note_end();
             }
-            wire.serve(rt, &mut self.near, self.room.as_mut_slice(), now);
+            wire.serve(
+                rt,
+                &self.roster,
+                &mut self.near,
+                self.room.as_mut_slice(),
+                now,
+            );
+            if let Some(found) = wire.take_found() {
+                self.finds.hear(found, now);
+            }
         }
         self.note_ended(rt, place, now);
         self.note_refused(rt, place, now);
@@ -498,6 +510,10 @@ impl<J: Which, C: Connects<J>> Connections<J, C> {
                 return Ok(());
             }
             self.turn(rt, state, &mut pace)?;
+            if let Some(found) = self.finds.due(state.run.clock.now(rt)) {
+                state.found.store(found.word(), Ordering::SeqCst);
+                return Ok(());
+            }
         }
         unreachable!()
     }

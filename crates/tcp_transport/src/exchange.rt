@@ -28,7 +28,8 @@ const WAITING_MAX: usize = 4_096;
 /// What all threads of a Sentinel of its own share. `turned` is when the connections were looked at last, and `stood`
 /// when it was last found that this had not been done for too long, by readings of the clock in milliseconds; the
 /// threads end where `ending` isn't 0. `heard` isn't 0 once another Sentinel's hello of each master was taken, so that
-/// an address that is told then is no older than what that one knew.
+/// an address that is told then is no older than what that one knew. `found` is the replica for which they end, as one
+/// word, where that isn't 0.
 #[derive(Drop)]
 pub struct WatchState {
     pub run: RunState,
@@ -36,6 +37,7 @@ pub struct WatchState {
     pub stood: AtomicU64,
     pub ending: AtomicU64,
     pub heard: AtomicU64,
+    pub found: AtomicU64,
 }
 
 /// A message that is to go out: it can be written, and may be said in the Sentinel's name. Contracts see the message.

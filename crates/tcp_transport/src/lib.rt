@@ -11,6 +11,7 @@ mod connections;
 mod exchange;
 mod far_hellos;
 mod fault_notes;
+mod found;
 mod hello_notes;
 mod logins;
 mod peer_connection;
@@ -24,6 +25,7 @@ mod traffic;
 
 pub use connections::{Connections, PlannedConnections};
 pub use exchange::{SentinelEnd, WatchState};
+pub use found::Found;
 pub use logins::Logins;
 pub use sockets::{Connects, NetSocket, NetSockets, Socket};
 pub use tick_loop::TickLoop;

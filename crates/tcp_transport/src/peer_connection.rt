@@ -8,11 +8,13 @@ ghost use Rattle.tcp_transport.specs.Hearing.{IsTakeable};
 use crate::asides::{Asides, Refused};
 use crate::exchange::{Outgoing, TransportEnd};
 use crate::fault_notes::Ended;
+use crate::found::Found;
+use crate::replica_notes::unnamed_in;
 use crate::roster_rows::{RowHeard, RowLook};
 use crate::said_link::SaidLink;
 use crate::sockets::Connects;
 use crate::traffic::Unheard;
-use ballot_law::{Body, NodeName, Roster};
+use ballot_law::{Body, Event, NodeName, Roster};
 use links::{
     ACKS_MS, FLOW_MS, HELLO_AGAIN_MS, Heard, LOOK_MS, Login, MUTE_MS, RateLimit, Refusal,
     SWITCH_MS, Stage, Stale, Target,
@@ -62,6 +64,7 @@ pub(crate) struct PeerConnection<J: Which, C: Connects<J>> {
     again: Option<Again>,
     mute_until: u64,
     abort: Option<Outgoing<J>>,
+    found: Option<Found>,
     alloc: Global,
 }
 
@@ -129,7 +132,24 @@ impl<J: Which, C: Connects<J>> PeerConnection<J, C> {
             again: None,
             mute_until: 0,
             abort: None,
+            found: None,
             alloc,
+        }
+    }
+
+    /// A replica that its node listed and no file names, once.
+    pub(crate) fn take_found(&mut self) -> Option<Found> {
+        self.found.take()
+    }
+
+    /// Looks whether what was heard lists a replica that the roster doesn't have.
+    fn look_for_found(&mut self, roster: &Roster, heard: &[Heard]) {
+        for told in heard {
+            if let Heard::Told(Event::InfoRead { node, text }) = told {
+                if let Some(found) = unnamed_in(roster, *node, text) {
+                    self.found = Some(found);
+                }
+            }
         }
     }
 
@@ -427,6 +447,7 @@ impl<J: Which, C: Connects<J>> PeerConnection<J, C> {
     fn read_once<R: Wait>(
         &mut self,
         rt: &R,
+        roster: &Roster,
         near: &mut TransportEnd<J>,
         room: &mut [u8],
         now: u64,
@@ -434,6 +455,7 @@ impl<J: Which, C: Connects<J>> PeerConnection<J, C> {
         let mut heard = Vec::new(self.alloc);
         let read = self.link.hear(room, now, &mut heard);
         let is_flooded = self.flow.add(now, heard.len() as u64);
+        self.look_for_found(roster, heard.as_slice());
         hand_on_all(rt, near, &mut self.asides, heard, now);
         self.hear_row();
         if is_flooded {
@@ -462,13 +484,14 @@ impl<J: Which, C: Connects<J>> PeerConnection<J, C> {
     fn read_in<R: Wait>(
         &mut self,
         rt: &R,
+        roster: &Roster,
         near: &mut TransportEnd<J>,
         room: &mut [u8],
         now: u64,
     ) -> bool {
         self.goes_on = false;
         for _ in 0..READS_MAX {
-            match self.read_once(rt, near, room, now) {
+            match self.read_once(rt, roster, near, room, now) {
                 Ok(count) if count < room.len() && !self.is_ending => return true,
                 Ok(_) | Err(ErrorKind::Interrupted) => {}
                 Err(ErrorKind::WouldBlock) => return true,
@@ -497,12 +520,13 @@ impl<J: Which, C: Connects<J>> PeerConnection<J, C> {
     pub(crate) fn serve<R: Wait>(
         &mut self,
         rt: &R,
+        roster: &Roster,
         near: &mut TransportEnd<J>,
         room: &mut [u8],
         now: u64,
     ) {
         let is_lasting = self.link.schedule().is_lasting(now);
-        if self.has_reached(now) && !self.read_in(rt, near, room, now) {
+        if self.has_reached(now) && !self.read_in(rt, roster, near, room, now) {
             self.link.close(now);
             if is_lasting {
                 self.link.forgive();

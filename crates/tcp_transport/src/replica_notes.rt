@@ -6,6 +6,7 @@ ghost use Rattle.ballot_law.specs.Cuts.{cut_at};
 ghost use Rattle.node_texts.specs.Infos.{after_label};
 ghost use Rattle.tcp_transport.specs.Replicas.{first_of, ip_around, replica_in};
 
+use crate::found::Found;
 use crate::hello_notes::{Seldom, Told, named};
 use ballot_law::{Addr, NodeName, Roster, Text};
 use links::DIFFERENT_MS;
@@ -84,6 +85,29 @@ fn replica_in(line: &[u8]) -> Option<Addr>
     let ip = ip_around(behind(part, b"slave")?)?;
     let port = behind(first_part(more, b','), b"port=")?;
     address_of(ip, port)
+}
+
+/// The first replica that an INFO of a data node lists, where that is a master's, and the roster doesn't have.
+pub(crate) fn unnamed_in(roster: &Roster, node: NodeName, info: &Text) -> Option<Found> {
+    let NodeName::StoreAt(number) = node else {
+        return None;
+    };
+    let at = roster.node_numbered(number)?;
+    let text = from_utf8(info.as_slice()).ok()?;
+    if !text.split("\r\n").any(|line| line == "role:master") {
+        return None;
+    }
+    for line in text.split("\r\n") {
+        if let Some(addr) = replica_in(line.as_bytes()) {
+            if !roster.has_node(at.master, addr) && line.contains("state=online") {
+                return Some(Found {
+                    master: at.master,
+                    addr,
+                });
+            }
+        }
+    }
+    None
 }
 
 impl ReplicaNotes {
