@@ -1,65 +1,39 @@
 //! The replicas among which one is chosen.
 
-use crate::given::{id, number, says};
 use crate::told::{Told, Unplayed};
+use crate::words::Words;
 use replica_choice::{Candidate, Limits, choose};
-use std::alloc::Global;
 
-/// The replicas that are known.
-#[derive(Drop)]
-pub(crate) struct Replicas {
-    known: Vec<Candidate>,
-}
-
-/// What these words tell of a replica.
-fn candidate(words: &[Vec<u8>]) -> Result<Candidate, Unplayed> {
-    let [state, priority, link, ping, info, offset, run_id] = words else {
-        return Err(Unplayed::WrongWords);
-    };
-    Ok(Candidate {
-        sdown: says(state, "down", "up")?,
-        priority: number(priority)?,
-        link_down_s: number(link)?,
-        last_ping: Some(number(ping)?),
-        last_info: Some(number(info)?),
-        offset: number(offset)?,
-        id: Some(id(run_id)?),
-    })
-}
-
-impl Replicas {
-    /// None is known.
-    pub(crate) fn new(alloc: Global) -> Replicas {
-        Replicas {
-            known: Vec::new(alloc),
+/// Tells what comes of a call with these words, on the replicas that are known.
+pub(crate) fn play(
+    known: &mut Vec<Candidate>,
+    call: &str,
+    words: &mut Words<'_>,
+    told: &mut Told,
+) -> Result<(), Unplayed> {
+    match call {
+        "replicas" => known.clear(),
+        "replica" => {
+            known.push(Candidate {
+                sdown: words.says("down", "up"),
+                priority: words.number(),
+                link_down_s: words.number(),
+                last_ping: Some(words.number()),
+                last_info: Some(words.number()),
+                offset: words.number(),
+                id: Some(words.id()),
+            })?;
         }
-    }
-
-    /// Tells what comes of a call with these words.
-    pub(crate) fn play(
-        &mut self,
-        call: &str,
-        words: &[Vec<u8>],
-        told: &mut Told,
-    ) -> Result<(), Unplayed> {
-        match (call, words) {
-            ("replicas", []) => {
-                self.known.clear();
-                told.ok()
-            }
-            ("replica", words) => {
-                self.known.push(candidate(words)?)?;
-                told.ok()
-            }
-            ("choose", [now, after, down]) => {
-                let limits = Limits {
-                    after_ms: number(after)?,
-                    master_down_ms: number(down)?,
-                };
-                let place = choose(&self.known, number(now)?, limits);
-                told.maybe_number(place.map(|place| place as u64))
-            }
-            _ => Err(Unplayed::NoSuchCall),
+        "choose" => {
+            let now = words.number();
+            let limits = Limits {
+                after_ms: words.number(),
+                master_down_ms: words.number(),
+            };
+            let place = choose(known.as_slice(), now, limits);
+            told.maybe_number(place.map(|place| place as u64));
         }
+        _ => return Err(Unplayed::NoSuchCall),
     }
+    Ok(())
 }

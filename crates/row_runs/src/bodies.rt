@@ -1,58 +1,56 @@
 //! What messages say, from words.
 
-ghost use Rattle.std.specs.Prelude.{IfOk};
+ghost use Rattle.std.specs.Prelude.{◌≤◌, IfOk};
+ghost use Rattle.ballot_law.specs.declared.cards.TheConstants.{MAX_EPOCH};
 ghost use Rattle.ballot_law.specs.Hellos.{IsHello};
 ghost use Rattle.node_texts.specs.Messages.MessageTexts.{IsWritable};
 ghost use Rattle.ballot_law.specs.Limits.{AnswersWithin, HasEpochWithin, IsWithinBody};
 
-use crate::given::{addr, maybe_addr, maybe_id, number, number_16, says, text};
 use crate::told::Unplayed;
+use crate::words::Words;
 use crate::writable::is_line;
 use crate::{infos, roles};
-use ballot_law::{Body, Card, Hello, MAX_EPOCH, Name, Role, ShortText, Shown, ShownList, Text};
+use ballot_law::{Body, Card, Hello, MAX_EPOCH, Role, ShortText, Shown, ShownList, Text};
 use node_texts::{read_hello, read_info};
 use std::alloc::Global;
 
+/// The next word as an epoch that may stand in a message.
+fn epoch(words: &mut Words<'_>) -> Result<u64, Unplayed>
+    ensures { IfOk result (λ epoch. epoch ≤ MAX_EPOCH) }
+{
+    let epoch = words.number();
+    if epoch > MAX_EPOCH {
+        return Err(Unplayed::OutOfRange);
+    }
+    Ok(epoch)
+}
+
 /// A question about a master: its number and address, the epoch, and the candidate.
-fn ask(words: &[Vec<u8>]) -> Result<Body, Unplayed>
+fn ask(words: &mut Words<'_>) -> Result<Body, Unplayed>
     ensures within { IfOk result IsWithinBody }
     ensures epochs { IfOk result AnswersWithin }
     ensures writable { IfOk result IsWritable }
 {
-    let [master, about, epoch, candidate] = words else {
-        return Err(Unplayed::WrongWords);
-    };
-    let epoch = number(epoch)?;
-    if epoch > MAX_EPOCH {
-        return Err(Unplayed::OutOfRange);
-    }
     Ok(Body::Ask {
-        master: number_16(master)?,
-        addr: addr(about)?,
-        epoch,
-        candidate: maybe_id(candidate)?,
+        master: words.number_16(),
+        addr: words.addr(),
+        epoch: epoch(words)?,
+        candidate: words.maybe_id(),
     })
 }
 
 /// The answer to it: the number and address of the master, whether it is down, the vote and its epoch.
-fn answer(words: &[Vec<u8>]) -> Result<Body, Unplayed>
+fn answer(words: &mut Words<'_>) -> Result<Body, Unplayed>
     ensures within { IfOk result IsWithinBody }
     ensures epochs { IfOk result AnswersWithin }
     ensures writable { IfOk result IsWritable }
 {
-    let [master, about, down, leader, epoch] = words else {
-        return Err(Unplayed::WrongWords);
-    };
-    let epoch = number(epoch)?;
-    if epoch > MAX_EPOCH {
-        return Err(Unplayed::OutOfRange);
-    }
     Ok(Body::Answer {
-        master: number_16(master)?,
-        addr: addr(about)?,
-        down: says(down, "down", "up")?,
-        leader: maybe_id(leader)?,
-        epoch,
+        master: words.number_16(),
+        addr: words.addr(),
+        down: words.says("down", "up"),
+        leader: words.maybe_id(),
+        epoch: epoch(words)?,
     })
 }
 
@@ -62,19 +60,16 @@ fn ping_text(word: &[u8]) -> Result<Body, Unplayed>
     ensures epochs { IfOk result AnswersWithin }
     ensures writable { IfOk result IsWritable }
 {
-    let [mark, line @ ..] = word else {
-        return Err(Unplayed::WrongWords);
+    let (is_error, line) = match word {
+        [b'+', line @ ..] => (false, line),
+        [b'-', line @ ..] => (true, line),
+        _ => return Err(Unplayed::WrongWords),
     };
-    let Some(text) = ShortText::from_slice(line) else {
-        return Err(Unplayed::WrongWords);
-    };
+    let text = ShortText::from_slice(line).ok_or(Unplayed::WrongWords)?;
     if !is_line(text.as_slice()) {
         return Err(Unplayed::OutOfRange);
     }
-    Ok(Body::PingText {
-        is_error: says(&[*mark], "-", "+")?,
-        text,
-    })
+    Ok(Body::PingText { is_error, text })
 }
 
 /// The INFO of these bytes.
@@ -100,56 +95,50 @@ fn hello(bytes: &[u8]) -> Result<Hello, Unplayed>
 }
 
 /// The configuration of a master with a number: its epoch and address.
-fn shown(words: &[Vec<u8>]) -> Result<Shown, Unplayed>
+fn shown(words: &mut Words<'_>) -> Result<Shown, Unplayed>
     ensures { IfOk result HasEpochWithin }
 {
-    let [master, epoch, at] = words else {
-        return Err(Unplayed::WrongWords);
-    };
-    let epoch = number(epoch)?;
-    if epoch > MAX_EPOCH {
-        return Err(Unplayed::OutOfRange);
-    }
     Ok(Shown {
-        master: number_16(master)?,
+        master: words.number_16(),
         card: Card {
-            epoch,
-            addr: addr(at)?,
+            epoch: epoch(words)?,
+            addr: words.addr(),
         },
     })
 }
 
-/// The answer of a port with these bytes, which shows no configuration or one.
-fn port_reply(alloc: Global, bytes: &[u8], words: &[Vec<u8>]) -> Result<Body, Unplayed>
+/// The answer of a port with the bytes of the next word, which shows no configuration or one.
+fn port_reply(alloc: Global, words: &mut Words<'_>) -> Result<Body, Unplayed>
     ensures within { IfOk result IsWithinBody }
     ensures epochs { IfOk result AnswersWithin }
     ensures writable { IfOk result IsWritable }
 {
+    let text = Text::from_slice(alloc, words.bytes())?;
     let mut list = Vec::new(alloc);
-    if !words.is_empty() {
+    if words.count() > 0 {
         list.push(shown(words)?)?;
     }
     Ok(Body::PortReply {
         shown: ShownList::from_vec(list),
-        text: Text::from_slice(alloc, bytes)?,
+        text,
     })
 }
 
 /// The role of a master, or of a replica of the one at an address, with an offset.
-fn role(words: &[Vec<u8>]) -> Result<Body, Unplayed>
+fn role(words: &mut Words<'_>) -> Result<Body, Unplayed>
     ensures within { IfOk result IsWithinBody }
     ensures epochs { IfOk result AnswersWithin }
     ensures writable { IfOk result IsWritable }
 {
-    let role = match words {
-        [offset] => Role::Master {
-            offset: number(offset)?,
-        },
-        [at, offset] => Role::Replica {
-            addr: addr(at)?,
-            offset: number(offset)?,
-        },
-        _ => return Err(Unplayed::WrongWords),
+    let role = if words.count() == 1 {
+        Role::Master {
+            offset: words.number(),
+        }
+    } else {
+        Role::Replica {
+            addr: words.addr(),
+            offset: words.number(),
+        }
     };
     if !roles::can_be_written(&role) {
         return Err(Unplayed::OutOfRange);
@@ -158,34 +147,28 @@ fn role(words: &[Vec<u8>]) -> Result<Body, Unplayed>
 }
 
 /// What a message says: the kind of it, and what goes with that.
-pub(crate) fn body(alloc: Global, words: &[Vec<u8>]) -> Result<Body, Unplayed>
+pub(crate) fn body(alloc: Global, words: &mut Words<'_>) -> Result<Body, Unplayed>
     ensures within { IfOk result IsWithinBody }
     ensures epochs { IfOk result AnswersWithin }
     ensures writable { IfOk result IsWritable }
 {
-    let [kind, words @ ..] = words else {
-        return Err(Unplayed::WrongWords);
-    };
-    match (text(kind)?, words) {
-        ("Ask", words) => ask(words),
-        ("Answer", words) => answer(words),
-        ("Ping", []) => Ok(Body::Ping),
-        ("PingText", [line]) => ping_text(line),
-        ("InfoAsk", []) => Ok(Body::InfoAsk),
-        ("InfoText", [bytes]) => info(bytes),
-        ("Publish", [bytes]) => Ok(Body::Publish(hello(bytes)?)),
-        ("HelloText", [bytes]) => Ok(Body::HelloText(hello(bytes)?)),
-        ("ReplicaOf", [master]) => Ok(Body::ReplicaOf(maybe_addr(master)?)),
-        ("AddressAsk", [name]) => match Name::from_slice(name) {
-            Some(name) => Ok(Body::AddressAsk(name)),
-            None => Err(Unplayed::WrongWords),
-        },
-        ("AddressAnswer", []) => Ok(Body::AddressAnswer(None)),
-        ("AddressAnswer", words) => Ok(Body::AddressAnswer(Some(shown(words)?))),
-        ("PortReply", [bytes, words @ ..]) => port_reply(alloc, bytes, words),
-        ("RoleAsk", []) => Ok(Body::RoleAsk),
-        ("RoleText", words) => role(words),
-        ("Done", []) => Ok(Body::Done),
+    match words.text() {
+        "Ask" => ask(words),
+        "Answer" => answer(words),
+        "Ping" => Ok(Body::Ping),
+        "PingText" => ping_text(words.bytes()),
+        "InfoAsk" => Ok(Body::InfoAsk),
+        "InfoText" => info(words.bytes()),
+        "Publish" => Ok(Body::Publish(hello(words.bytes())?)),
+        "HelloText" => Ok(Body::HelloText(hello(words.bytes())?)),
+        "ReplicaOf" => Ok(Body::ReplicaOf(words.maybe_addr())),
+        "AddressAsk" => Ok(Body::AddressAsk(words.name()?)),
+        "AddressAnswer" if words.count() == 0 => Ok(Body::AddressAnswer(None)),
+        "AddressAnswer" => Ok(Body::AddressAnswer(Some(shown(words)?))),
+        "PortReply" => port_reply(alloc, words),
+        "RoleAsk" => Ok(Body::RoleAsk),
+        "RoleText" => role(words),
+        "Done" => Ok(Body::Done),
         _ => Err(Unplayed::WrongWords),
     }
 }

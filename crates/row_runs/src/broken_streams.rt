@@ -1,8 +1,8 @@
 //! Streams that come in pieces, and readers and writers that fail.
 
-use crate::given::{number, says, text};
 use crate::sentinels::Lone;
 use crate::told::{Told, Unplayed};
+use crate::words::Words;
 use sentinel_core::{ServeFault, Served};
 use std::alloc::Global;
 use std::io::{self, Cursor, ErrorKind, Read, Write};
@@ -101,7 +101,7 @@ struct End {
     answers: usize,
 }
 
-/// A stream that is served in one way: where it breaks, how that ends, and how many bytes of the answers are written.
+/// How a stream is served: where it breaks, how that ends, and how many bytes of the answers are written.
 #[derive(Clone, Copy)]
 struct Trial {
     read: Breach,
@@ -122,14 +122,9 @@ pub(crate) struct BrokenStreams {
     ends: Vec<End>,
 }
 
-/// The number of bytes that a word is.
-fn count(word: &[u8]) -> Result<usize, Unplayed> {
-    Ok(number(word)? as usize)
-}
-
-/// The kind of error that a word names; none for `nothing`.
-fn fault(word: &[u8]) -> Result<Option<ErrorKind>, Unplayed> {
-    match text(word)? {
+/// The kind of error that the next word names; none for `nothing`.
+fn fault(words: &mut Words<'_>) -> Result<Option<ErrorKind>, Unplayed> {
+    match words.text() {
         "StorageFull" => Ok(Some(ErrorKind::StorageFull)),
         "BrokenPipe" => Ok(Some(ErrorKind::BrokenPipe)),
         "nothing" => Ok(None),
@@ -138,39 +133,34 @@ fn fault(word: &[u8]) -> Result<Option<ErrorKind>, Unplayed> {
 }
 
 impl BrokenStreams {
-    /// No stream.
-    pub(crate) fn new(alloc: Global) -> BrokenStreams {
-        BrokenStreams {
+    /// No stream, with the file of each Sentinel.
+    fn boxed(
+        alloc: Global,
+        conf: &[u8],
+        is_twice: bool,
+    ) -> Result<Box<BrokenStreams>, Unplayed> {
+        let streams = BrokenStreams {
             alloc,
-            conf: Vec::new(alloc),
-            is_twice: false,
+            conf: Vec::from_slice(alloc, conf)?,
+            is_twice,
             asks: Vec::new(alloc),
             answers: Vec::new(alloc),
             ends: Vec::new(alloc),
-        }
-    }
-
-    /// Begins anew with the file of each Sentinel.
-    fn begin(&mut self, conf: &[u8], is_twice: bool) -> Result<(), Unplayed> {
-        self.conf = Vec::from_slice(self.alloc, conf)?;
-        self.is_twice = is_twice;
-        self.asks.clear();
-        self.answers.clear();
-        self.ends.clear();
-        Ok(())
+        };
+        Ok(Box::new(alloc, streams)?)
     }
 
     /// Adds a command, and tells its answer: what a Sentinel writes after the answers to the commands before it.
     fn exchange(&mut self, ask: &[u8], told: &mut Told) -> Result<(), Unplayed> {
         self.asks.extend_from_slice(ask)?;
-        let mut lone = Lone::boxed(self.alloc, &self.conf, 0)?;
+        let mut lone = Lone::strict(self.alloc, &self.conf)?;
         let mut written = Vec::new(self.alloc);
         let served = lone.serve(0, &mut Cursor::new(self.asks.as_slice()), &mut written)?;
         if served.is_err() {
             return Err(Unplayed::OutOfRange);
         }
         match written.strip_prefix(self.answers.as_slice()) {
-            Some(answer) => told.bytes(answer)?,
+            Some(answer) => told.bytes(answer),
             None => return Err(Unplayed::Changed),
         }
         self.answers = written;
@@ -181,22 +171,21 @@ impl BrokenStreams {
         Ok(())
     }
 
-    /// How many bytes the answers have to the commands that are whole in the first bytes of the stream, in this number
-    /// of them.
-    fn answered_within(&self, count: usize) -> usize {
-        let mut answered = 0;
-        for end in &self.ends {
-            if end.asks <= count {
-                answered = end.answers;
-            }
-        }
-        answered
-    }
-
-    /// Whether the Sentinel answers the whole stream, where it serves it once more.
-    fn is_answered_again(&self, lone: &mut Lone) -> Result<bool, Unplayed> {
-        if !self.is_twice {
-            return Ok(true);
+    /// Whether a stream is served so, and the same Sentinel then answers all of it, where it serves it once more.
+    fn stands(&self, trial: &Trial) -> Result<bool, Unplayed> {
+        let reader = &mut BrokenReader {
+            bytes: self.asks.as_slice(),
+            breach: trial.read,
+        };
+        let mut writer = BrokenWriter {
+            bytes: Vec::new(self.alloc),
+            breach: trial.write,
+        };
+        let mut lone = Lone::strict(self.alloc, &self.conf)?;
+        let first = lone.serve(0, reader, &mut writer)?;
+        let part = self.answers.get(..trial.written);
+        if first != trial.end || part != Some(writer.bytes.as_slice()) || !self.is_twice {
+            return Ok(first == trial.end && part == Some(writer.bytes.as_slice()));
         }
         let mut written = Vec::new(self.alloc);
         let served = lone.serve(0, &mut Cursor::new(self.asks.as_slice()), &mut written)?;
@@ -210,177 +199,128 @@ impl BrokenStreams {
         })
     }
 
-    /// Whether a stream is served so, and the same Sentinel then answers all of it.
-    fn stands(&self, trial: &Trial) -> Result<bool, Unplayed> {
-        let reader = &mut BrokenReader {
-            bytes: self.asks.as_slice(),
-            breach: trial.read,
-        };
-        let mut writer = BrokenWriter {
-            bytes: Vec::new(self.alloc),
-            breach: trial.write,
-        };
-        let mut lone = Lone::boxed(self.alloc, &self.conf, 0)?;
-        let first = lone.serve(0, reader, &mut writer)?;
-        let part = self.answers.get(..trial.written);
-        let is_so = first == trial.end && part == Some(writer.bytes.as_slice());
-        Ok(is_so && self.is_answered_again(&mut lone)?)
-    }
-
-    /// The stream as it is served where it comes so, and nothing fails.
-    fn read_whole(&self, read: Breach) -> Trial {
-        Trial {
-            read,
-            write: WHOLE,
-            end: self.whole(),
-            written: self.answers.len(),
-        }
-    }
-
-    /// The stream as it is served where a read fails after this number of bytes.
-    fn read_failed(&self, size: usize, left: usize) -> Trial {
-        let left = left.min(self.asks.len());
-        Trial {
-            read: Breach {
-                size,
-                left,
-                fault: Some(ErrorKind::ConnectionReset),
-            },
-            write: WHOLE,
-            end: Err(ServeFault::Read),
-            written: self.answered_within(left),
-        }
-    }
-
-    /// The stream as it is served where a read and a write are interrupted after this number of bytes, which come and
-    /// go one at a time.
-    fn interrupted(&self, left: usize) -> Trial {
-        let breach = Breach {
-            size: 1,
-            left,
-            fault: Some(ErrorKind::Interrupted),
-        };
-        Trial {
-            read: breach,
-            write: breach,
-            end: self.whole(),
-            written: self.answers.len(),
-        }
-    }
-
-    /// The stream as it is served where a write fails.
-    fn write_failed(&self, read: usize, write: Breach) -> Trial {
-        Trial {
-            read: Breach {
-                size: read,
-                ..WHOLE
-            },
-            write,
-            end: Err(ServeFault::Write),
-            written: write.left,
-        }
-    }
-
-    /// How a stream is served after this number of bytes, by a call with these words.
-    fn trial(&self, call: &str, words: &[Vec<u8>], left: usize) -> Result<Trial, Unplayed> {
-        match (call, words) {
-            ("each_cut", []) => Ok(self.read_whole(Breach { left, ..WHOLE })),
-            ("in_pieces", [size]) => Ok(self.read_whole(Breach {
-                size: count(size)?,
-                ..WHOLE
-            })),
-            ("each_read_fails", [size]) => Ok(self.read_failed(count(size)?, left)),
-            ("each_interruption", []) => Ok(self.interrupted(left)),
-            ("each_write_fails", [read, size, kind]) => Ok(self.write_failed(
-                count(read)?,
-                Breach {
-                    size: count(size)?,
-                    left,
-                    fault: fault(kind)?,
-                },
-            )),
-            ("each_room", [kind]) => {
-                let fault = fault(kind)?;
-                Ok(self.write_failed(
-                    usize::MAX,
-                    Breach {
-                        left,
-                        fault,
-                        ..WHOLE
-                    },
-                ))
-            }
-            _ => Err(Unplayed::NoSuchCall),
-        }
-    }
-
-    /// Serves the stream in each way of a call, after each number of bytes, up to a place. Tells how many these were,
-    /// or the first that isn't served so.
-    fn try_each(
+    /// How a stream is served by a call after this number of bytes, which come and go so many at a time: whole, unless
+    /// the call has a read or a write fail there.
+    fn trial(
         &self,
         call: &str,
-        words: &[Vec<u8>],
-        step: usize,
-        end: usize,
-        told: &mut Told,
-    ) -> Result<(), Unplayed> {
-        let mut tried: u64 = 0;
-        for left in (0..end).step_by(step.max(1)) {
-            if !self.stands(&self.trial(call, words, left)?)? {
-                told.word("otherwise-behind")?;
-                return told.number(left as u64);
-            }
-            tried = tried.saturating_add(1);
+        sizes: (usize, usize),
+        fault: Option<ErrorKind>,
+        left: usize,
+    ) -> Trial {
+        let mut trial = Trial {
+            read: Breach {
+                size: sizes.0,
+                ..WHOLE
+            },
+            write: Breach {
+                size: sizes.1,
+                ..WHOLE
+            },
+            end: self.whole(),
+            written: self.answers.len(),
+        };
+        if call == "each_cut" || call == "each_read_fails" || call == "each_interruption" {
+            trial.read.left = left.min(self.asks.len());
+            trial.read.fault = fault;
         }
-        told.number(tried)
+        if call == "each_write_fails" || call == "each_room" || call == "each_interruption" {
+            trial.write.left = left;
+            trial.write.fault = fault;
+        }
+        if call == "each_read_fails" {
+            trial.end = Err(ServeFault::Read);
+            trial.written = 0;
+            for end in &self.ends {
+                if end.asks <= trial.read.left {
+                    trial.written = end.answers;
+                }
+            }
+        }
+        if call == "each_write_fails" || call == "each_room" {
+            trial.end = Err(ServeFault::Write);
+            trial.written = left;
+        }
+        trial
     }
 
     /// Tells how a stream without bytes is served whose reader is interrupted this number of times, and how many reads
     /// there were.
     fn tell_interrupted(&self, times: u64, told: &mut Told) -> Result<(), Unplayed> {
-        let mut lone = Lone::boxed(self.alloc, &self.conf, 0)?;
+        let mut lone = Lone::strict(self.alloc, &self.conf)?;
         let mut reader = InterruptedReader {
             left: times,
             reads: 0,
         };
         let mut written = Vec::new(self.alloc);
         match lone.serve(0, &mut reader, &mut written)? {
-            Ok(served) => told.number(served.answers)?,
+            Ok(served) => told.number(served.answers),
             Err(ServeFault::NoMemory) => return Err(Unplayed::NoMemory),
-            Err(fault) => told.shown(&fault)?,
+            Err(fault) => told.shown(&fault),
         }
-        told.number(reader.reads)
+        told.number(reader.reads);
+        Ok(())
     }
 
-    /// Tells what comes of a call with these words.
-    pub(crate) fn play(
-        &mut self,
+    /// Serves the stream in each way of a call, after each number of bytes. Tells how many these were, or the first that
+    /// isn't served so.
+    fn try_each(
+        &self,
         call: &str,
-        words: &[Vec<u8>],
+        words: &mut Words<'_>,
         told: &mut Told,
     ) -> Result<(), Unplayed> {
-        let (asks, answers) = (self.asks.len(), self.answers.len());
-        match (call, words) {
-            ("conf", [conf, times]) => {
-                self.begin(conf, says(times, "twice", "once")?)?;
-                told.ok()
+        let (asks, answers, all) = (self.asks.len(), self.answers.len(), usize::MAX);
+        let (sizes, step, end, fault) = match call {
+            "each_cut" => ((all, all), 1, asks, None),
+            "in_pieces" => ((words.number() as usize, all), 1, 1, None),
+            "each_read_fails" => {
+                let size = words.number() as usize;
+                let fault = Some(ErrorKind::ConnectionReset);
+                ((size, all), size, asks.saturating_add(size), fault)
             }
-            ("exchange", [ask]) => self.exchange(ask, told),
-            ("each_cut", []) => self.try_each(call, words, 1, asks, told),
-            ("in_pieces", [_]) => self.try_each(call, words, 1, 1, told),
-            ("each_read_fails", [size]) => {
-                let size = count(size)?;
-                self.try_each(call, words, size, asks.saturating_add(size), told)
+            "each_interruption" => {
+                let fault = Some(ErrorKind::Interrupted);
+                ((1, 1), 1, asks.saturating_add(1), fault)
             }
-            ("each_interruption", []) => {
-                self.try_each(call, words, 1, asks.saturating_add(1), told)
+            "each_write_fails" => {
+                let (read, size) = (words.number() as usize, words.number() as usize);
+                ((read, size), size, answers, fault(words)?)
             }
-            ("each_write_fails", [_, size, _]) => {
-                self.try_each(call, words, count(size)?, answers, told)
+            "each_room" => ((all, all), 1, answers, fault(words)?),
+            _ => return Err(Unplayed::NoSuchCall),
+        };
+        let mut tried: u64 = 0;
+        for left in (0..end).step_by(step.max(1)) {
+            if !self.stands(&self.trial(call, sizes, fault, left))? {
+                told.word("otherwise-behind");
+                told.number(left as u64);
+                return Ok(());
             }
-            ("each_room", [_]) => self.try_each(call, words, 1, answers, told),
-            ("interrupted", [times]) => self.tell_interrupted(number(times)?, told),
-            _ => Err(Unplayed::NoSuchCall),
+            tried = tried.saturating_add(1);
         }
+        told.number(tried);
+        Ok(())
+    }
+}
+
+/// Tells what comes of a call with these words, on the stream that was begun.
+pub(crate) fn play(
+    streams: &mut Option<Box<BrokenStreams>>,
+    alloc: Global,
+    call: &str,
+    words: &mut Words<'_>,
+    told: &mut Told,
+) -> Result<(), Unplayed> {
+    if call == "conf" {
+        let (conf, is_twice) = (words.bytes(), words.says("twice", "once"));
+        *streams = Some(BrokenStreams::boxed(alloc, conf, is_twice)?);
+        return Ok(());
+    }
+    let streams = streams.as_mut().ok_or(Unplayed::OutOfRange)?;
+    match call {
+        "exchange" => streams.exchange(words.bytes(), told),
+        "interrupted" => streams.tell_interrupted(words.number(), told),
+        _ => streams.try_each(call, words, told),
     }
 }

@@ -2,6 +2,8 @@
 
 use crate::commands::array;
 use crate::told::{Told, Unplayed};
+use crate::words::Words;
+use ballot_law::Text;
 use pubsub::{Channel, Event, Subscriptions, Turn, is_match};
 use resp2::OutText;
 use std::alloc::Global;
@@ -33,116 +35,90 @@ const CHANNELS: [Channel; 23] = [
     Channel::TiltExited,
 ];
 
-/// The words up to the first `/`, and those after it.
-fn first_command(words: &[Vec<u8>]) -> (&[Vec<u8>], &[Vec<u8>]) {
-    let end = words
-        .iter()
-        .position(|word| word.as_slice() == b"/".as_slice());
-    let Some(end) = end else {
-        return (words, &[]);
-    };
-    let (command, rest) = words.split_at(end);
-    match rest.split_first() {
-        Some((_, more)) => (command, more),
-        None => (command, &[]),
-    }
-}
-
 /// Has a connection send commands, with a `/` between two, and tells what becomes of each.
 fn send(
     alloc: Global,
     held: &mut Subscriptions,
-    words: &[Vec<u8>],
+    words: &mut Words<'_>,
     told: &mut Told,
 ) -> Result<(), Unplayed> {
     let mut out = OutText::new(alloc);
-    let mut rest = words;
-    for _ in 0..words.len() {
-        if rest.is_empty() {
-            return Ok(());
+    for _ in 0..words.count() {
+        if words.count() == 0 {
+            break;
         }
-        let (command, more) = first_command(rest);
-        match held.answer(&array(alloc, command)?, &mut out)? {
-            Turn::Said => told.bytes(out.as_slice())?,
-            Turn::Other => told.word("other")?,
+        match held.answer(&array(alloc, words.up_to(b"/"))?, &mut out)? {
+            Turn::Said => told.bytes(out.as_slice()),
+            Turn::Other => told.word("other"),
         }
-        rest = more;
     }
     Ok(())
 }
 
-/// Tells what a connection that sent these commands is told of a text on a channel.
-fn tell(
-    alloc: Global,
-    channel: &[u8],
-    text: &[u8],
-    words: &[Vec<u8>],
-    told: &mut Told,
-) -> Result<(), Unplayed> {
-    let mut held = Subscriptions::new(alloc);
-    send(alloc, &mut held, words, &mut Told::new(alloc))?;
-    let mut out = OutText::new(alloc);
-    held.tell(channel, text, &mut out)?;
-    told.bytes(out.as_slice())
-}
-
-/// Tells to how many channels and patterns a connection that sent these commands listens, and what they are.
-fn tell_held(alloc: Global, words: &[Vec<u8>], told: &mut Told) -> Result<(), Unplayed> {
-    let mut held = Subscriptions::new(alloc);
-    send(alloc, &mut held, words, &mut Told::new(alloc))?;
-    told.yes(held.is_listening())?;
-    told.number(held.count() as u64)?;
-    for name in held.channels() {
-        told.bytes(name.as_slice())?;
-    }
-    for name in held.patterns() {
-        told.bytes(name.as_slice())?;
-    }
-    Ok(())
-}
-
-/// Tells what a connection is told of each event with this text that listens to this pattern.
+/// Tells what a connection is told of each event with this text.
 fn tell_events(
     alloc: Global,
+    held: &Subscriptions,
     text: &[u8],
-    words: &[Vec<u8>],
     told: &mut Told,
 ) -> Result<(), Unplayed> {
-    let mut held = Subscriptions::new(alloc);
-    send(alloc, &mut held, words, &mut Told::new(alloc))?;
     for channel in CHANNELS {
-        let event = Event {
-            channel,
-            text: ballot_law::Text::from_slice(alloc, text)?,
-        };
+        let text = Text::from_slice(alloc, text)?;
         let mut out = OutText::new(alloc);
-        held.tell_event(&event, &mut out)?;
-        told.bytes(out.as_slice())?;
+        held.tell_event(&Event { channel, text }, &mut out)?;
+        told.bytes(out.as_slice());
     }
     Ok(())
 }
 
-/// Tells whether each text matches the pattern.
-fn tell_matches(pattern: &[u8], texts: &[Vec<u8>], told: &mut Told) -> Result<(), Unplayed> {
-    for text in texts {
-        told.yes(is_match(pattern, text.as_slice()))?;
+/// Tells to how many channels and patterns a connection listens, and what they are.
+fn tell_held(held: &Subscriptions, told: &mut Told) {
+    told.yes(held.is_listening());
+    told.number(held.count() as u64);
+    for name in held.channels() {
+        told.bytes(name.as_slice());
     }
-    Ok(())
+    for name in held.patterns() {
+        told.bytes(name.as_slice());
+    }
 }
 
-/// Tells what comes of a call with these words.
+/// Tells what comes of a call with these words: of a connection that sends commands, or has sent them.
 pub(crate) fn play(
     alloc: Global,
     call: &str,
-    words: &[Vec<u8>],
+    words: &mut Words<'_>,
     told: &mut Told,
 ) -> Result<(), Unplayed> {
-    match (call, words) {
-        ("send", words) => send(alloc, &mut Subscriptions::new(alloc), words, told),
-        ("held", words) => tell_held(alloc, words, told),
-        ("told", [channel, text, words @ ..]) => tell(alloc, channel, text, words, told),
-        ("events", [text, words @ ..]) => tell_events(alloc, text, words, told),
-        ("matches", [pattern, texts @ ..]) => tell_matches(pattern, texts, told),
+    let mut held = Box::new(alloc, Subscriptions::new(alloc))?;
+    let mut before = Told::new(alloc);
+    match call {
+        "send" => send(alloc, &mut held, words, told),
+        "held" => {
+            let sent = send(alloc, &mut held, words, &mut before);
+            tell_held(&held, told);
+            sent
+        }
+        "told" => {
+            let (channel, text) = (words.bytes(), words.bytes());
+            send(alloc, &mut held, words, &mut before)?;
+            let mut out = OutText::new(alloc);
+            held.tell(channel, text, &mut out)?;
+            told.bytes(out.as_slice());
+            Ok(())
+        }
+        "events" => {
+            let text = words.bytes();
+            send(alloc, &mut held, words, &mut before)?;
+            tell_events(alloc, &held, text, told)
+        }
+        "matches" => {
+            let pattern = words.bytes();
+            for text in words.rest() {
+                told.yes(is_match(pattern, text.as_slice()));
+            }
+            Ok(())
+        }
         _ => Err(Unplayed::NoSuchCall),
     }
 }

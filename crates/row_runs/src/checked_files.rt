@@ -2,15 +2,16 @@
 //! and how they are mended.
 
 use crate::conf_files::conf_of;
-use crate::given::{addr, id, joined, number, number_32, text};
 use crate::told::{Told, Unplayed};
-use ballot_law::{Member, Name, Text};
+use crate::words::Words;
+use ballot_law::{Member, Text};
 use conf_check::{
     Change, ChangeFault, Directives, ID_BYTES, MasterSetting, MendFault, NamedConf, NewMaster,
     NewSetting, Replacement, ReplicaOf, Report, add_notes, add_sides, add_warnings,
     add_watch_warnings, are_one_group, changed_texts, id_line, mended_texts,
 };
 use std::alloc::Global;
+use std::str;
 use tokens::ip_of;
 
 /// The name of a file that is told of.
@@ -21,33 +22,38 @@ const BEFORE: &[u8] = b"before\n";
 
 /// Tells lines as they stand, with a word `|` for the end of each.
 fn tell_lines(lines: &[u8], told: &mut Told) -> Result<(), Unplayed> {
-    for (place, line) in text(lines)?.split('\n').enumerate() {
+    let Ok(lines) = str::from_utf8(lines) else {
+        return Err(Unplayed::WrongWords);
+    };
+    for (place, line) in lines.split('\n').enumerate() {
         if place > 0 {
-            told.word("|")?;
+            told.word("|");
         }
         if !line.is_empty() {
-            told.word(line)?;
+            told.word(line);
         }
     }
-    told.nothing()
-}
-
-/// A file with its name.
-fn named(alloc: Global, name: &[u8], file: &[u8]) -> Result<NamedConf, Unplayed> {
-    let name = String::from_str(alloc, text(name)?)?;
-    let conf = Box::into_inner(conf_of(alloc, file)?);
-    Ok(NamedConf { name, conf })
+    told.nothing();
+    Ok(())
 }
 
 /// Files with their names: each name stands before its file.
-fn files_of(alloc: Global, words: &[Vec<u8>]) -> Result<Vec<NamedConf>, Unplayed> {
+fn files_of(alloc: Global, words: &mut Words<'_>) -> Result<Vec<NamedConf>, Unplayed> {
     let mut files = Vec::new(alloc);
-    let mut rest = words;
-    while let [name, file, more @ ..] = rest {
-        files.push(named(alloc, name, file)?)?;
-        rest = more;
+    for _ in 0..words.count() / 2 {
+        let name = String::from_str(alloc, words.text())?;
+        let conf = Box::into_inner(conf_of(alloc, words.bytes())?);
+        files.push(NamedConf { name, conf })?;
     }
     Ok(files)
+}
+
+/// Tells texts of files.
+fn tell_texts(texts: &[Text], told: &mut Told) {
+    for text in texts {
+        told.bytes(text.as_slice());
+    }
+    told.nothing();
 }
 
 /// Tells the lines of a report, and whether the group is refused.
@@ -56,11 +62,12 @@ fn tell_report(report: &Report, told: &mut Told) -> Result<(), Unplayed> {
         "refused"
     } else {
         "taken"
-    })?;
+    });
     tell_lines(report.text(), told)
 }
 
-/// Tells what these files make of a group, one by itself where there is one.
+/// Tells what these files make of a group, one by itself where there is one, in what two differ, and their texts once
+/// they are mended, or why they aren't.
 fn tell_group(
     alloc: Global,
     call: &str,
@@ -68,59 +75,40 @@ fn tell_group(
     told: &mut Told,
 ) -> Result<(), Unplayed> {
     match (call, files) {
-        ("Report::of", files) => tell_report(&Report::of(alloc, files)?, told),
-        ("Report::of_one", [file]) => tell_report(&Report::of_one(alloc, file)?, told),
+        ("Report::of", files) => tell_report(&Report::of(alloc, files)?, told)?,
+        ("Report::of_one", [file]) => tell_report(&Report::of_one(alloc, file)?, told)?,
         ("add_sides", [one, other]) => {
             let mut out = Vec::from_slice(alloc, BEFORE)?;
             add_sides(alloc, &mut out, one, other)?;
-            tell_lines(&out, told)
+            tell_lines(&out, told)?;
         }
-        ("mended_texts", files) => tell_mended(alloc, files, told),
-        _ => Err(Unplayed::WrongWords),
+        ("mended_texts", files) => match mended_texts(alloc, files) {
+            Ok(texts) => tell_texts(texts.as_slice(), told),
+            Err(MendFault::NoMemory) => return Err(Unplayed::NoMemory),
+            Err(fault) => told.shown(&fault),
+        },
+        _ => return Err(Unplayed::WrongWords),
     }
+    Ok(())
 }
 
-/// Tells the texts of files once they are mended, or why they aren't.
-fn tell_mended(alloc: Global, files: &[NamedConf], told: &mut Told) -> Result<(), Unplayed> {
-    match mended_texts(alloc, files) {
-        Ok(texts) => {
-            for text in texts.as_slice() {
-                told.bytes(text.as_slice())?;
-            }
-            told.nothing()
-        }
-        Err(MendFault::NoMemory) => Err(Unplayed::NoMemory),
-        Err(fault) => told.shown(&fault),
-    }
-}
-
-/// The master's name that the word spells.
-fn name(word: &[u8]) -> Result<Name, Unplayed> {
-    match Name::from_slice(word) {
-        Some(name) => Ok(name),
-        None => Err(Unplayed::WrongWords),
-    }
-}
-
-/// The replica of these words.
-fn replica(master: &[u8], at: &[u8]) -> Result<ReplicaOf, Unplayed> {
+/// The replica of the next words: the name of its master, and its address.
+fn replica(words: &mut Words<'_>) -> Result<ReplicaOf, Unplayed> {
     Ok(ReplicaOf {
-        master: name(master)?,
-        addr: addr(at)?,
+        master: words.name()?,
+        addr: words.addr(),
     })
 }
 
-/// The ip that the word spells.
-fn ip(word: &[u8]) -> Result<u32, Unplayed> {
-    match ip_of(word) {
-        Some(ip) => Ok(ip),
-        None => Err(Unplayed::WrongWords),
-    }
+/// The ip that the next word spells.
+fn ip(words: &mut Words<'_>) -> u32 {
+    let ip = ip_of(words.bytes());
+    words.or(ip, 0)
 }
 
-/// The setting of this name.
-fn setting(word: &[u8]) -> Result<MasterSetting, Unplayed> {
-    match word {
+/// The setting of the name that the next word spells.
+fn setting(words: &mut Words<'_>) -> Result<MasterSetting, Unplayed> {
+    match words.bytes() {
         b"quorum" => Ok(MasterSetting::Quorum),
         b"down_after" => Ok(MasterSetting::DownAfter),
         b"failover_timeout" => Ok(MasterSetting::FailoverTimeout),
@@ -129,85 +117,72 @@ fn setting(word: &[u8]) -> Result<MasterSetting, Unplayed> {
     }
 }
 
-/// The change of this kind with these words.
-fn change(
-    alloc: Global,
-    kind: &[u8],
-    one: &[u8],
-    two: &[u8],
-    three: &[u8],
-) -> Result<Change, Unplayed> {
-    match kind {
+/// The change of the kind of the first of these four words; some kinds don't need all of the others.
+fn change(alloc: Global, words: &mut Words<'_>) -> Result<Change, Unplayed> {
+    match words.bytes() {
         b"AddMaster" => Ok(Change::AddMaster(NewMaster {
-            name: name(one)?,
-            nodes: vec![in alloc; addr(two)?]?,
-            quorum: number_32(three)?,
+            name: words.name()?,
+            nodes: vec![in alloc; words.addr()]?,
+            quorum: words.number_32(),
             down_after_ms: 5_000,
             password: Vec::new(alloc),
         })),
-        b"RemoveMaster" => Ok(Change::RemoveMaster(name(one)?)),
-        b"AddReplica" => Ok(Change::AddReplica(replica(one, two)?)),
-        b"RemoveReplica" => Ok(Change::RemoveReplica(replica(one, two)?)),
+        b"RemoveMaster" => Ok(Change::RemoveMaster(words.name()?)),
+        b"AddReplica" => Ok(Change::AddReplica(replica(words)?)),
+        b"RemoveReplica" => Ok(Change::RemoveReplica(replica(words)?)),
         b"AddSentinel" => Ok(Change::AddSentinel(Member {
-            id: id(one)?,
-            addr: addr(two)?,
+            id: words.id(),
+            addr: words.addr(),
         })),
-        b"RemoveSentinel" => Ok(Change::RemoveSentinel(id(one)?)),
+        b"RemoveSentinel" => Ok(Change::RemoveSentinel(words.id())),
         b"ReplaceHost" => Ok(Change::ReplaceHost(Replacement {
-            old: ip(one)?,
-            new: ip(two)?,
-            id: id(three)?,
+            old: ip(words),
+            new: ip(words),
+            id: words.id(),
         })),
         b"Set" => Ok(Change::Set(NewSetting {
-            master: name(one)?,
-            setting: setting(two)?,
-            value: number_32(three)?,
+            master: words.name()?,
+            setting: setting(words)?,
+            value: words.number_32(),
         })),
         _ => Err(Unplayed::WrongWords),
     }
 }
 
-/// Tells the texts of files once their group is changed, or why it isn't.
-fn tell_changed(alloc: Global, words: &[Vec<u8>], told: &mut Told) -> Result<(), Unplayed> {
-    let [kind, one, two, three, files @ ..] = words else {
-        return Err(Unplayed::WrongWords);
-    };
-    let change = change(alloc, kind, one, two, three)?;
-    let files = files_of(alloc, files)?;
-    match changed_texts(alloc, files.as_slice(), &change) {
-        Ok(texts) => {
-            for text in texts.as_slice() {
-                told.bytes(text.as_slice())?;
-            }
-            told.nothing()
-        }
-        Err(ChangeFault::NoMemory) => Err(Unplayed::NoMemory),
+/// Tells the texts of files once their group is changed so, or why it isn't.
+fn tell_changed(
+    alloc: Global,
+    files: &[NamedConf],
+    change: &Change,
+    told: &mut Told,
+) -> Result<(), Unplayed> {
+    match changed_texts(alloc, files, change) {
+        Ok(texts) => tell_texts(texts.as_slice(), told),
+        Err(ChangeFault::NoMemory) => return Err(Unplayed::NoMemory),
         Err(fault) => told.shown(&fault),
     }
+    Ok(())
 }
 
-/// Tells all faults of the file with these bytes.
-fn tell_notes(alloc: Global, file: &[u8], told: &mut Told) -> Result<(), Unplayed> {
-    let mut out = Vec::from_slice(alloc, BEFORE)?;
-    add_notes(alloc, &mut out, PATH, file)?;
-    tell_lines(&out, told)
-}
-
-/// Tells what is said of the file with these bytes in a group of so many Sentinels, to a group in one process or to a
-/// `watch`.
-fn tell_warnings(
+/// Tells what a call adds of the file with these bytes: all its faults, or what is said of it in a group of so many
+/// Sentinels, to a group in one process or to a `watch`.
+fn tell_added(
     alloc: Global,
     call: &str,
-    sentinels: u64,
-    file: &[u8],
+    words: &mut Words<'_>,
     told: &mut Told,
 ) -> Result<(), Unplayed> {
     let known = Directives::of_redis();
     let mut out = Vec::from_slice(alloc, BEFORE)?;
+    if call == "add_notes" {
+        add_notes(alloc, &mut out, PATH, &words.joined(alloc)?)?;
+        return tell_lines(&out, told);
+    }
+    let (sentinels, file) = (words.number(), words.joined(alloc)?);
     if call == "add_warnings" {
-        add_warnings(alloc, &mut out, &known, sentinels, PATH, file)?;
+        add_warnings(alloc, &mut out, &known, sentinels, PATH, &file)?;
     } else {
-        add_watch_warnings(alloc, &mut out, &known, sentinels, PATH, file)?;
+        add_watch_warnings(alloc, &mut out, &known, sentinels, PATH, &file)?;
     }
     tell_lines(&out, told)
 }
@@ -219,33 +194,37 @@ fn tell_id(alloc: Global, bytes: &[u8], told: &mut Told) -> Result<(), Unplayed>
     }
     let mut id = [0; ID_BYTES];
     id.copy_from_slice(bytes);
-    told.bytes(id_line(alloc, &id)?.as_bytes())
-}
-
-/// Tells whether these texts are the files of one group.
-fn tell_one_group(alloc: Global, words: &[Vec<u8>], told: &mut Told) -> Result<(), Unplayed> {
-    let mut texts = Vec::new(alloc);
-    for word in words {
-        texts.push(Text::from_slice(alloc, word)?)?;
-    }
-    told.yes(are_one_group(alloc, texts.as_slice())?)
+    told.bytes(id_line(alloc, &id)?.as_bytes());
+    Ok(())
 }
 
 /// Tells what comes of a call with these words.
 pub(crate) fn play(
     alloc: Global,
     call: &str,
-    words: &[Vec<u8>],
+    words: &mut Words<'_>,
     told: &mut Told,
 ) -> Result<(), Unplayed> {
-    match (call, words) {
-        ("id_line", [bytes]) => tell_id(alloc, bytes, told),
-        ("are_one_group", words) => tell_one_group(alloc, words, told),
-        ("changed_texts", words) => tell_changed(alloc, words, told),
-        ("add_notes", file) => tell_notes(alloc, &joined(alloc, file)?, told),
-        ("add_warnings" | "add_watch_warnings", [sentinels, file @ ..]) => {
-            let file = joined(alloc, file)?;
-            tell_warnings(alloc, call, number(sentinels)?, &file, told)
+    match call {
+        "id_line" => tell_id(alloc, words.bytes(), told),
+        "are_one_group" => {
+            let mut texts = Vec::new(alloc);
+            for word in words.rest() {
+                texts.push(Text::from_slice(alloc, word)?)?;
+            }
+            told.yes(are_one_group(alloc, texts.as_slice())?);
+            Ok(())
+        }
+        "changed_texts" => {
+            let end = words.count().saturating_sub(4);
+            let change = change(alloc, words)?;
+            for _ in end..words.count() {
+                words.bytes();
+            }
+            tell_changed(alloc, &files_of(alloc, words)?, &change, told)
+        }
+        "add_notes" | "add_warnings" | "add_watch_warnings" => {
+            tell_added(alloc, call, words, told)
         }
         _ => tell_group(alloc, call, &files_of(alloc, words)?, told),
     }

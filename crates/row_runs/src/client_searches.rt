@@ -1,26 +1,19 @@
 //! A client's search for a master.
 
-use crate::given::{addr, number, says};
 use crate::told::{Told, Unplayed};
+use crate::words::Words;
 use ballot_law::Addr;
 use client_queries::{Move, Quest, QuestFault};
 use std::alloc::Global;
-
-/// A search; none before it began.
-#[derive(Drop)]
-pub(crate) struct Searches {
-    alloc: Global,
-    quest: Option<Quest>,
-}
 
 /// Tells a move; a Sentinel that is asked by its place in the list and its address.
 fn tell_move(quest: &Quest, told: &mut Told) -> Result<(), Unplayed> {
     let (name, addr) = match quest.next_move() {
         Move::Ask(place) => {
-            told.word("ask")?;
-            told.number(place as u64)?;
-            let addr = quest.at(place).ok_or(Unplayed::OutOfRange)?;
-            return told.address(addr);
+            told.word("ask");
+            told.number(place as u64);
+            told.address(quest.at(place).ok_or(Unplayed::OutOfRange)?);
+            return Ok(());
         }
         Move::Connect(addr) => ("connect", Some(addr)),
         Move::CheckRole(addr) => ("check", Some(addr)),
@@ -28,80 +21,92 @@ fn tell_move(quest: &Quest, told: &mut Told) -> Result<(), Unplayed> {
         Move::NoSentinel => ("no-sentinel", None),
         Move::Done(addr) => ("done", Some(addr)),
     };
-    told.word(name)?;
-    match addr {
-        Some(addr) => told.address(addr),
-        None => Ok(()),
+    told.word(name);
+    if let Some(addr) = addr {
+        told.address(addr);
+    }
+    Ok(())
+}
+
+/// A search over these Sentinels, whose first move is told, or the fault of the list.
+fn begun(
+    alloc: Global,
+    list: &[Addr],
+    told: &mut Told,
+) -> Result<Option<Box<Quest>>, Unplayed> {
+    match Quest::new(alloc, list) {
+        Ok(quest) => {
+            tell_move(&quest, told)?;
+            Ok(Some(Box::new(alloc, quest)?))
+        }
+        Err(QuestFault::NoMemory) => Err(Unplayed::NoMemory),
+        Err(QuestFault::Empty) => {
+            told.word("Empty");
+            Ok(None)
+        }
+        Err(QuestFault::TooMany) => {
+            told.word("TooMany");
+            Ok(None)
+        }
     }
 }
 
-/// Has the search hear what came of its last move: whether that can come of it.
-fn hear(quest: &mut Quest, call: &str, words: &[Vec<u8>]) -> Result<bool, Unplayed> {
-    match (call, words) {
-        ("answered", [word]) if word.as_slice() == b"None".as_slice() => Ok(quest.answered(None)),
-        ("answered", [word]) => Ok(quest.answered(Some(addr(word)?))),
-        ("connected", []) => Ok(quest.connected()),
-        ("failed", []) => Ok(quest.failed()),
-        ("failed_times", [times]) => {
+/// Has the search hear what came of its last move. Tells whether that can't come of it, and the next move.
+fn hear(
+    quest: &mut Quest,
+    call: &str,
+    words: &mut Words<'_>,
+    told: &mut Told,
+) -> Result<(), Unplayed> {
+    let fits = match call {
+        "answered" => quest.answered(words.maybe_addr()),
+        "connected" => quest.connected(),
+        "failed" => quest.failed(),
+        "failed_times" => {
             let mut fits = true;
-            for _ in 0..number(times)? {
+            for _ in 0..words.number() {
                 fits = quest.failed();
             }
-            Ok(fits)
+            fits
         }
-        ("role", [word]) => Ok(quest.role_was(says(word, "master", "slave")?)),
-        ("waited", []) => Ok(quest.waited()),
-        _ => Err(Unplayed::NoSuchCall),
+        "role" => quest.role_was(words.says("master", "slave")),
+        "waited" => quest.waited(),
+        _ => return Err(Unplayed::NoSuchCall),
+    };
+    if !fits {
+        told.word("no");
     }
+    tell_move(quest, told)
 }
 
-impl Searches {
-    /// None began.
-    pub(crate) fn new(alloc: Global) -> Searches {
-        Searches { alloc, quest: None }
-    }
-
-    /// A search over these Sentinels begins, or the fault of the list is told.
-    fn begin(&mut self, list: &[Addr], told: &mut Told) -> Result<(), Unplayed> {
-        match Quest::new(self.alloc, list) {
-            Ok(quest) => {
-                tell_move(&quest, told)?;
-                self.quest = Some(quest);
-                Ok(())
+/// Tells what comes of a call with these words, on the search that has begun.
+pub(crate) fn play(
+    quest: &mut Option<Box<Quest>>,
+    alloc: Global,
+    call: &str,
+    words: &mut Words<'_>,
+    told: &mut Told,
+) -> Result<(), Unplayed> {
+    let mut list = Vec::new(alloc);
+    match call {
+        "search" => {
+            for _ in 0..words.count() {
+                list.push(words.addr())?;
             }
-            Err(QuestFault::Empty) => told.word("Empty"),
-            Err(QuestFault::TooMany) => told.word("TooMany"),
-            Err(QuestFault::NoMemory) => Err(Unplayed::NoMemory),
+            *quest = begun(alloc, list.as_slice(), told)?;
+            Ok(())
         }
-    }
-
-    /// Tells what comes of a call with these words.
-    pub(crate) fn play(
-        &mut self,
-        call: &str,
-        words: &[Vec<u8>],
-        told: &mut Told,
-    ) -> Result<(), Unplayed> {
-        let mut list = Vec::new(self.alloc);
-        match (call, words) {
-            ("search", words) => {
-                for word in words {
-                    list.push(addr(word)?)?;
-                }
-                return self.begin(&list, told);
+        "search_alike" => {
+            let (count, addr) = (words.number(), words.addr());
+            for _ in 0..count {
+                list.push(addr)?;
             }
-            ("search_alike", [count, word]) => {
-                for _ in 0..number(count)? {
-                    list.push(addr(word)?)?;
-                }
-                return self.begin(&list, told);
-            }
-            _ => {}
+            *quest = begun(alloc, list.as_slice(), told)?;
+            Ok(())
         }
-        let quest = self.quest.as_mut().ok_or(Unplayed::OutOfRange)?;
-        if !hear(quest, call, words)? {
-            told.word("no")?;
-        }
-        tell_move(quest, told)
+        _ => match quest {
+            Some(quest) => hear(quest, call, words, told),
+            None => Err(Unplayed::OutOfRange),
+        },
     }
 }

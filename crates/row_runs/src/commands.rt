@@ -2,52 +2,43 @@
 
 use crate::frames::{feed, next};
 use crate::told::{Told, Unplayed};
-use ballot_law::{Command, Name, Text};
-use resp2::{CommandFault, Frames, Value, command_of};
+use crate::words::Words;
+use ballot_law::{Command, Text};
+use resp2::{Frames, Value, command_of};
 use std::alloc::Global;
 
-/// Tells the name of a command, and the master that it names.
-fn tell_named(name: &str, master: &Option<Name>, told: &mut Told) -> Result<(), Unplayed> {
-    told.word(name)?;
+/// Tells a command: its name, and what it is asked with.
+pub(crate) fn tell_command(command: &Command, told: &mut Told) {
+    let (name, master) = match command {
+        Command::Ping => ("Ping", None),
+        Command::IsMasterDownByAddr { .. } => ("IsMasterDownByAddr", None),
+        Command::GetMasterAddrByName(master) => ("GetMasterAddrByName", Some(master)),
+        Command::Masters => ("Masters", None),
+        Command::Master(master) => ("Master", Some(master)),
+        Command::Replicas(master) => ("Replicas", Some(master)),
+        Command::Sentinels(master) => ("Sentinels", Some(master)),
+        Command::MyId => ("MyId", None),
+        Command::CkQuorum(master) => ("CkQuorum", Some(master)),
+        Command::Failover(master) => ("Failover", Some(master)),
+        Command::FlushConfig => ("FlushConfig", None),
+        Command::Subscribe => ("Subscribe", None),
+        Command::Info => ("Info", None),
+    };
+    told.word(name);
     match master {
-        Some(master) => told.bytes(master.as_slice()),
-        None => told.word("None"),
+        Some(Some(master)) => told.bytes(master.as_slice()),
+        Some(None) => told.word("None"),
+        None => {}
     }
-}
-
-/// Tells a command.
-pub(crate) fn tell_command(command: &Command, told: &mut Told) -> Result<(), Unplayed> {
-    match command {
-        Command::Ping => told.word("Ping"),
-        Command::IsMasterDownByAddr {
-            addr,
-            epoch,
-            candidate,
-        } => {
-            told.word("IsMasterDownByAddr")?;
-            told.address(*addr)?;
-            told.number(*epoch)?;
-            told.maybe_id(*candidate)
-        }
-        Command::GetMasterAddrByName(master) => tell_named("GetMasterAddrByName", master, told),
-        Command::Masters => told.word("Masters"),
-        Command::Master(master) => tell_named("Master", master, told),
-        Command::Replicas(master) => tell_named("Replicas", master, told),
-        Command::Sentinels(master) => tell_named("Sentinels", master, told),
-        Command::MyId => told.word("MyId"),
-        Command::CkQuorum(master) => tell_named("CkQuorum", master, told),
-        Command::Failover(master) => tell_named("Failover", master, told),
-        Command::FlushConfig => told.word("FlushConfig"),
-        Command::Subscribe => told.word("Subscribe"),
-        Command::Info => told.word("Info"),
-    }
-}
-
-/// Tells the command that a value is, or its first fault.
-fn tell_judged(value: &Value, told: &mut Told) -> Result<(), Unplayed> {
-    match command_of(value) {
-        Ok(command) => tell_command(&command, told),
-        Err(fault) => told.shown(&fault),
+    if let Command::IsMasterDownByAddr {
+        addr,
+        epoch,
+        candidate,
+    } = command
+    {
+        told.address(*addr);
+        told.number(*epoch);
+        told.maybe_id(*candidate);
     }
 }
 
@@ -59,8 +50,7 @@ pub(crate) fn value_of(alloc: Global, bytes: &[u8]) -> Result<Value, Unplayed> {
     }
     match next(&mut frames) {
         Ok(Some(value)) if frames.held().is_empty() => Ok(value),
-        Ok(_) => Err(Unplayed::WrongWords),
-        Err(_) => Err(Unplayed::WrongWords),
+        _ => Err(Unplayed::WrongWords),
     }
 }
 
@@ -73,24 +63,21 @@ pub(crate) fn array(alloc: Global, words: &[Vec<u8>]) -> Result<Value, Unplayed>
     Ok(Value::Items(items))
 }
 
-/// The first fault of a value that is no command.
-pub(crate) fn fault_of(value: &Value) -> Result<CommandFault, Unplayed> {
-    match command_of(value) {
-        Ok(_) => Err(Unplayed::WrongWords),
-        Err(fault) => Ok(fault),
-    }
-}
-
-/// Tells what comes of a call with these words.
+/// Tells what comes of a call with these words: the command that a value is, or its first fault.
 pub(crate) fn play(
     alloc: Global,
     call: &str,
-    words: &[Vec<u8>],
+    words: &mut Words<'_>,
     told: &mut Told,
 ) -> Result<(), Unplayed> {
-    match (call, words) {
-        ("command_of", [bytes]) => tell_judged(&value_of(alloc, bytes)?, told),
-        ("command_of_words", words) => tell_judged(&array(alloc, words)?, told),
-        _ => Err(Unplayed::NoSuchCall),
+    let value = match call {
+        "command_of" => value_of(alloc, words.bytes())?,
+        "command_of_words" => array(alloc, words.rest())?,
+        _ => return Err(Unplayed::NoSuchCall),
+    };
+    match command_of(&value) {
+        Ok(command) => tell_command(&command, told),
+        Err(fault) => told.shown(&fault),
     }
+    Ok(())
 }

@@ -3,10 +3,10 @@
 ghost use Rattle.std.specs.Prelude.{◌≡◌, IfOk};
 ghost use Rattle.sentinel_outbox.specs.declared.phase.Phase.TheVariants.{Ready};
 
-use crate::given::{number, number_16, says};
 use crate::told::{Told, Unplayed};
+use crate::words::Words;
 use ballot_law::{Addr, Card, Note, Text};
-use courteous_sessions::ClientSession;
+use courteous_sessions::{ClientSession, Reach};
 use sentinel_cell::{CellFault, Seat, SharedSentinel};
 use sentinel_conf::{MemoryStore, read};
 use sentinel_core::{Sentinel, ServeFault};
@@ -20,7 +20,7 @@ const ROOM: usize = 65_536;
 
 /// One seat of a Sentinel, and two clients who are answered at it.
 #[derive(Drop)]
-struct Talk {
+pub(crate) struct Talk {
     alloc: Global,
     cell: SharedSentinel<MemoryStore>,
     seat: Seat,
@@ -73,9 +73,10 @@ fn tell_seats(alloc: Global, file: &[u8], seats: u64, told: &mut Told) -> Result
     let sentinel = opened(alloc, file, false)?;
     match SharedSentinel::new(alloc, sentinel, store, seats) {
         Ok((_, seat)) => told.number(seat.share()),
-        Err((_, CellFault::NoMemory)) => Err(Unplayed::NoMemory),
+        Err((_, CellFault::NoMemory)) => return Err(Unplayed::NoMemory),
         Err((_, fault)) => told.shown(&fault),
     }
+    Ok(())
 }
 
 /// A store with this text, which refuses its first text if that is wanted.
@@ -90,12 +91,15 @@ fn store(alloc: Global, file: &[u8], refuses: bool) -> Result<MemoryStore, Unpla
 }
 
 /// Tells how a piece is taken.
-fn tell_end(end: Result<(), ServeFault>, told: &mut Told) -> Result<(), Unplayed> {
+fn tell_end(end: Result<Reach, ServeFault>, told: &mut Told) -> Result<(), Unplayed> {
     match end {
-        Ok(()) => told.ok(),
-        Err(ServeFault::NoMemory) => Err(Unplayed::NoMemory),
+        Ok(Reach::Done) => {}
+        Ok(Reach::Waits) => told.word("waits"),
+        Ok(Reach::Full) => told.word("full"),
+        Err(ServeFault::NoMemory) => return Err(Unplayed::NoMemory),
         Err(fault) => told.shown(&fault),
     }
+    Ok(())
 }
 
 /// The note that the first master moved to the node with this port.
@@ -132,10 +136,17 @@ impl Talk {
         Ok(Box::new(alloc, talk)?)
     }
 
-    /// The first client sends a piece, at clock 0.
-    fn say<R: Wait>(&mut self, rt: &R, piece: &[u8]) -> Result<(), ServeFault> {
-        self.first
-            .received(rt, &self.cell, &mut self.seat, 0, piece)
+    /// The first client sends a piece, at clock 0, and is answered as a port does it: so many values that may store,
+    /// and as many again while the next one waits.
+    fn say<R: Wait>(&mut self, rt: &R, piece: &[u8], most: u64) -> Result<Reach, ServeFault> {
+        let mut reach = self.first.go_on(rt, &self.cell, &mut self.seat, 0, piece, most)?;
+        for _ in 0..u64::MAX {
+            if reach != Reach::Waits {
+                break;
+            }
+            reach = self.first.go_on(rt, &self.cell, &mut self.seat, 0, b"", most)?;
+        }
+        Ok(reach)
     }
 
     /// Tells how a piece of the first client is taken. A session that lacked memory is over: it answers that to any
@@ -146,10 +157,10 @@ impl Talk {
         piece: &[u8],
         told: &mut Told,
     ) -> Result<(), Unplayed> {
-        let end = self.say(rt, piece);
+        let end = self.say(rt, piece, u64::MAX);
         if end == Err(ServeFault::NoMemory) {
             self.part = Vec::from_slice(self.alloc, self.first.unsent())?;
-            if self.say(rt, piece) != end {
+            if self.say(rt, piece, u64::MAX) != end {
                 return Err(Unplayed::Changed);
             }
             self.begin_anew();
@@ -162,19 +173,12 @@ impl Talk {
         self.first = ClientSession::new(self.alloc, self.courteous, 1);
     }
 
-    /// From now on the first client is to give this password.
-    fn want_password(&mut self, password: &[u8]) -> Result<(), Unplayed> {
-        self.first
-            .want_password(Text::from_slice(self.alloc, password)?);
-        Ok(())
-    }
-
     /// Tells the last request for a vote of the first client that was too far ahead, if there was one.
-    fn tell_far(&mut self, told: &mut Told) -> Result<(), Unplayed> {
+    fn tell_far(&mut self, told: &mut Told) {
         match self.first.take_far() {
             Some(request) => {
-                told.bytes(run_id_text(request.candidate).as_slice())?;
-                told.number(request.epoch)
+                told.maybe_id(Some(request.candidate));
+                told.number(request.epoch);
             }
             None => told.word("none"),
         }
@@ -186,26 +190,29 @@ impl Talk {
         if !self.first.unsent().starts_with(&self.part) {
             return Err(Unplayed::Changed);
         }
-        told.bytes(self.first.unsent())
+        told.bytes(self.first.unsent());
+        Ok(())
     }
 
-    /// The second client does.
-    fn other_say<R: Wait>(&mut self, rt: &R, piece: &[u8]) -> Result<(), ServeFault> {
+    /// The second client sends a piece.
+    fn other_say<R: Wait>(&mut self, rt: &R, piece: &[u8]) -> Result<Reach, ServeFault> {
         self.second
-            .received(rt, &self.cell, &mut self.seat, 0, piece)
+            .go_on(rt, &self.cell, &mut self.seat, 0, piece, u64::MAX)
     }
 
-    /// The first client sends a stream in pieces of this size.
+    /// The first client sends a stream in pieces of this size, each of which is answered one value that may store at a
+    /// time.
     fn say_in_pieces<R: Wait>(
         &mut self,
         rt: &R,
         size: usize,
         stream: &[u8],
-    ) -> Result<(), ServeFault> {
+    ) -> Result<Reach, ServeFault> {
+        let mut reach = Reach::Done;
         for piece in stream.chunks(size.max(1)) {
-            self.say(rt, piece)?;
+            reach = self.say(rt, piece, 1)?;
         }
-        Ok(())
+        Ok(reach)
     }
 
     /// The first client is sent this number of bytes; false where there are fewer.
@@ -231,118 +238,97 @@ impl Talk {
         &mut self,
         rt: &R,
         call: &str,
-        words: &[Vec<u8>],
+        words: &mut Words<'_>,
         told: &mut Told,
     ) -> Result<(), Unplayed> {
-        match (call, words) {
-            ("says", [piece]) => self.tell_said(rt, piece, told),
-            ("other_says", [piece]) => tell_end(self.other_say(rt, piece), told),
-            ("says_in_pieces", [size, stream]) => {
-                let size = number(size)? as usize;
-                tell_end(self.say_in_pieces(rt, size, stream), told)
+        match call {
+            "says" => self.tell_said(rt, words.bytes(), told)?,
+            "other_says" => tell_end(self.other_say(rt, words.bytes()), told)?,
+            "says_in_pieces" => {
+                let (size, stream) = (words.number() as usize, words.bytes());
+                tell_end(self.say_in_pieces(rt, size, stream), told)?;
             }
-            ("unsent", []) => self.tell_unsent(told),
-            ("other_unsent", []) => told.bytes(self.second.unsent()),
-            ("sent", [count]) => told.yes(self.send(number(count)? as usize)),
-            ("hears", [epoch, port, entry]) => {
-                let note = moved(number(epoch)?, number_16(port)?);
-                told.yes(self.hear(&note, number(entry)?)?)
+            "unsent" => self.tell_unsent(told)?,
+            "other_unsent" => told.bytes(self.second.unsent()),
+            "sent" => told.yes(self.send(words.number() as usize)),
+            "hears" => {
+                let note = moved(words.number(), words.number_16());
+                told.yes(self.hear(&note, words.number())?);
             }
-            ("wants_password", [password]) => {
-                self.want_password(password)?;
-                told.ok()
+            "wants_password" => {
+                let password = Text::from_slice(self.alloc, words.bytes())?;
+                self.first.want_password(password);
             }
-            ("knows_epoch", [epoch]) => {
-                self.first.note_epoch(number(epoch)?);
-                told.ok()
-            }
-            ("far", []) => self.tell_far(told),
-            ("begins_anew", []) => {
-                self.begin_anew();
-                told.ok()
-            }
-            _ => Err(Unplayed::NoSuchCall),
+            "knows_epoch" => self.first.note_epoch(words.number()),
+            "far" => self.tell_far(told),
+            "begins_anew" => self.begin_anew(),
+            _ => return Err(Unplayed::NoSuchCall),
         }
+        Ok(())
     }
 }
 
-/// A conversation; none before one was made.
-#[derive(Drop)]
-pub(crate) struct Conversations {
+/// What a stream gets that is cut in two at a place, in a conversation of its own, in which one value that may store is
+/// answered at a time.
+fn cut<R: Wait>(
     alloc: Global,
-    talk: Option<Box<Talk>>,
+    rt: &R,
+    file: &[u8],
+    stream: &[u8],
+    place: usize,
+    courteous: bool,
+) -> Result<Vec<u8>, Unplayed> {
+    let (front, back) = stream.split_at(place.min(stream.len()));
+    let mut talk = Talk::boxed(alloc, file, false, courteous)?;
+    if talk.say(rt, front, 1).is_err() || talk.say(rt, back, 1).is_err() {
+        return Err(Unplayed::NoMemory);
+    }
+    Ok(Vec::from_slice(alloc, talk.first.unsent())?)
 }
 
-impl Conversations {
-    /// None was made.
-    pub(crate) fn new(alloc: Global) -> Conversations {
-        Conversations { alloc, talk: None }
-    }
-
-    /// What a stream gets that is cut in two at a place, in a conversation of its own.
-    fn cut<R: Wait>(
-        &self,
-        rt: &R,
-        file: &[u8],
-        stream: &[u8],
-        place: usize,
-        courteous: bool,
-    ) -> Result<Vec<u8>, Unplayed> {
-        let (front, back) = stream.split_at(place.min(stream.len()));
-        let mut talk = Talk::boxed(self.alloc, file, false, courteous)?;
-        if talk.say(rt, front).is_err() || talk.say(rt, back).is_err() {
-            return Err(Unplayed::NoMemory);
+/// Tells what a stream gets, if it is the same wherever it is cut in two.
+fn tell_cuts<R: Wait>(
+    alloc: Global,
+    rt: &R,
+    words: &mut Words<'_>,
+    courteous: bool,
+    told: &mut Told,
+) -> Result<(), Unplayed> {
+    let (file, stream) = (words.bytes(), words.bytes());
+    let whole = cut(alloc, rt, file, stream, 0, courteous)?;
+    for place in 1..=stream.len() {
+        if cut(alloc, rt, file, stream, place, courteous)?.as_slice() != whole.as_slice() {
+            told.word("otherwise-cut-at");
+            told.number(place as u64);
+            return Ok(());
         }
-        Ok(Vec::from_slice(self.alloc, talk.first.unsent())?)
     }
+    told.bytes(&whole);
+    Ok(())
+}
 
-    /// Tells what a stream gets, if it is the same wherever it is cut in two.
-    fn tell_cuts<R: Wait>(
-        &self,
-        rt: &R,
-        file: &[u8],
-        stream: &[u8],
-        courteous: bool,
-        told: &mut Told,
-    ) -> Result<(), Unplayed> {
-        let whole = self.cut(rt, file, stream, 0, courteous)?;
-        for place in 1..=stream.len() {
-            if self.cut(rt, file, stream, place, courteous)?.as_slice() != whole.as_slice() {
-                told.word("otherwise-cut-at")?;
-                return told.number(place as u64);
-            }
+/// Tells what comes of a call with these words, on the conversation that was made.
+pub(crate) fn play<R: Wait>(
+    talk: &mut Option<Box<Talk>>,
+    alloc: Global,
+    rt: &R,
+    call: &str,
+    words: &mut Words<'_>,
+    told: &mut Told,
+) -> Result<(), Unplayed> {
+    match call {
+        "conversation" | "courteous_conversation" => {
+            let (file, refuses) = (words.bytes(), words.says("refuses", "stores"));
+            let courteous = call == "courteous_conversation";
+            *talk = Some(Talk::boxed(alloc, file, refuses, courteous)?);
+            Ok(())
         }
-        told.bytes(&whole)
-    }
-
-    /// Tells what comes of a call with these words.
-    pub(crate) fn play<R: Wait>(
-        &mut self,
-        rt: &R,
-        call: &str,
-        words: &[Vec<u8>],
-        told: &mut Told,
-    ) -> Result<(), Unplayed> {
-        match (call, words) {
-            ("conversation", [file, store]) => {
-                let refuses = says(store, "refuses", "stores")?;
-                self.talk = Some(Talk::boxed(self.alloc, file, refuses, false)?);
-                told.ok()
-            }
-            ("courteous_conversation", [file, store]) => {
-                let refuses = says(store, "refuses", "stores")?;
-                self.talk = Some(Talk::boxed(self.alloc, file, refuses, true)?);
-                told.ok()
-            }
-            ("each_cut", [file, stream]) => self.tell_cuts(rt, file, stream, false, told),
-            ("each_courteous_cut", [file, stream]) => {
-                self.tell_cuts(rt, file, stream, true, told)
-            }
-            ("seats", [file, seats]) => tell_seats(self.alloc, file, number(seats)?, told),
-            _ => {
-                let talk = self.talk.as_mut().ok_or(Unplayed::OutOfRange)?;
-                talk.play(rt, call, words, told)
-            }
+        "each_cut" => tell_cuts(alloc, rt, words, false, told),
+        "each_courteous_cut" => tell_cuts(alloc, rt, words, true, told),
+        "seats" => tell_seats(alloc, words.bytes(), words.number(), told),
+        _ => {
+            let talk = talk.as_mut().ok_or(Unplayed::OutOfRange)?;
+            talk.play(rt, call, words, told)
         }
     }
 }

@@ -10,8 +10,8 @@ const ROOM: usize = 65_536;
 /// A file in memory that counts how often it is written, refusals among them.
 #[derive(Drop)]
 pub(crate) struct CountedFile {
-    store: MemoryStore,
-    writes: u64,
+    pub(crate) store: MemoryStore,
+    pub(crate) writes: u64,
 }
 
 impl ConfStore for CountedFile {
@@ -38,18 +38,5 @@ impl CountedFile {
             store: MemoryStore::with_room(alloc, text, ROOM)?,
             writes: 0,
         })
-    }
-
-    pub(crate) fn text(&self) -> &[u8] {
-        self.store.text()
-    }
-
-    pub(crate) fn writes(&self) -> u64 {
-        self.writes
-    }
-
-    /// Has a write refused after this number of served ones, with the new text left or the old one.
-    pub(crate) fn refuse_after(&mut self, passes: u32, is_new: bool) {
-        self.store.refuse_after(passes, is_new);
     }
 }

@@ -1,7 +1,7 @@
 //! The failover of one master, and what the Sentinel knows at its turns.
 
-use crate::given::{id, maybe_id, number, number_16, number_32, says, text};
 use crate::told::{Told, Unplayed};
+use crate::words::Words;
 use ballot_law::{Addr, RunId};
 use failover_states::{Facts, Failover, FailoverState, Row};
 use std::alloc::Global;
@@ -37,8 +37,7 @@ const FACTS: Facts<'static> = Facts {
 /// A failover with what is known at its turns, and the vote of the last one.
 #[derive(Drop)]
 pub(crate) struct Turns {
-    alloc: Global,
-    failover: Option<Failover>,
+    failover: Failover,
     known: Facts<'static>,
     down: Vec<bool>,
     vote: Option<RunId>,
@@ -81,93 +80,22 @@ fn row_name(row: Option<Row>) -> &'static str {
     }
 }
 
-/// Tells the places of the replicas that the last turn gave an order.
-fn tell_ordered(failover: &Failover, told: &mut Told) -> Result<(), Unplayed> {
-    let mut is_none = true;
-    for place in 0..failover.node_count() {
-        let Ok(place) = u16::try_from(place) else {
-            return Err(Unplayed::OutOfRange);
-        };
-        if failover.ordered(place) {
-            told.number(u64::from(place))?;
-            is_none = false;
-        }
-    }
-    if is_none {
-        return told.word("None");
-    }
-    Ok(())
-}
-
-/// Tells the configuration that the promotion brings.
-fn tell_promoted(failover: &mut Failover, told: &mut Told) -> Result<(), Unplayed> {
-    match failover.promoted() {
-        Some(card) => {
-            told.number(card.epoch)?;
-            told.address(card.addr)
-        }
-        None => told.word("None"),
-    }
-}
-
-/// Tells what comes of a call of a failover but a turn.
-fn play_failover(
-    failover: &mut Failover,
-    call: &str,
-    words: &[Vec<u8>],
-    told: &mut Told,
-) -> Result<(), Unplayed> {
-    match (call, words) {
-        ("state", []) => told.word(state_name(failover.state())),
-        ("epoch", []) => told.maybe_number(failover.epoch()),
-        ("choice", []) => told.maybe_number(failover.choice().map(u64::from)),
-        ("ordered", []) => tell_ordered(failover, told),
-        ("mark", [now]) => {
-            failover.mark(number(now)?);
-            told.ok()
-        }
-        ("at", [now]) => {
-            failover.at(number(now)?);
-            told.ok()
-        }
-        ("promoted", []) => tell_promoted(failover, told),
-        ("reconf", [place, now]) => {
-            failover.reconf(number_16(place)?, number(now)?);
-            told.ok()
-        }
-        ("end", []) => {
-            failover.end();
-            told.ok()
-        }
-        _ => Err(Unplayed::NoSuchCall),
-    }
-}
-
 impl Turns {
-    /// No failover is known.
-    pub(crate) fn new(alloc: Global) -> Turns {
-        Turns {
-            alloc,
-            failover: None,
+    /// A failover of a master with this number of nodes begins.
+    pub(crate) fn new(alloc: Global, nodes: u16) -> Result<Turns, Unplayed> {
+        Ok(Turns {
+            failover: Failover::new(alloc, nodes)?,
             known: FACTS,
             down: Vec::new(alloc),
             vote: None,
-        }
-    }
-
-    /// A failover of a master with this number of nodes begins.
-    fn begin(&mut self, nodes: u16) -> Result<(), Unplayed> {
-        self.failover = Some(Failover::new(self.alloc, nodes)?);
-        self.known = FACTS;
-        self.down.clear();
-        Ok(())
+        })
     }
 
     /// The nodes at these places are down, and no others.
-    fn know_down(&mut self, places: &[Vec<u8>]) -> Result<(), Unplayed> {
+    fn know_down(&mut self, words: &mut Words<'_>) -> Result<(), Unplayed> {
         self.down.clear();
-        for place in places {
-            let place = usize::from(number_16(place)?);
+        for _ in 0..words.count() {
+            let place = usize::from(words.number_16());
             for _ in self.down.len()..=place {
                 self.down.push(false)?;
             }
@@ -179,71 +107,96 @@ impl Turns {
     }
 
     /// A fact is this from now on.
-    fn know(&mut self, fact: &[u8], value: &[u8]) -> Result<(), Unplayed> {
+    fn know(&mut self, words: &mut Words<'_>) -> Result<(), Unplayed> {
         let known = &mut self.known;
-        match text(fact)? {
-            "odown" => known.odown = says(value, "true", "false")?,
-            "current" => known.current = number(value)?,
-            "voted" => known.voted = number(value)?,
-            "own" => known.own = maybe_id(value)?,
-            "need" => known.need = number_32(value)?,
-            "pick" => known.pick = id(value)?,
-            "count" => known.count = number_32(value)?,
-            "best" => known.best = if says(value, "true", "false")? {
+        match words.text() {
+            "down" => return self.know_down(words),
+            "odown" => known.odown = words.says("true", "false"),
+            "current" => known.current = words.number(),
+            "voted" => known.voted = words.number(),
+            "own" => known.own = words.maybe_id(),
+            "need" => known.need = words.number_32(),
+            "pick" => known.pick = words.id(),
+            "count" => known.count = words.number_32(),
+            "best" => known.best = if words.says("true", "false") {
                 FACTS.best
             } else {
                 None
             },
-            "card" => known.card_place = number_16(value)?,
-            "timeout" => known.timeout = number(value)?,
-            "syncs" => known.parallel_syncs = number(value)?,
-            "random" => known.random = number(value)?,
+            "card" => known.card_place = words.number_16(),
+            "timeout" => known.timeout = words.number(),
+            "syncs" => known.parallel_syncs = words.number(),
+            "random" => known.random = words.number(),
             _ => return Err(Unplayed::WrongWords),
         }
         Ok(())
     }
 
-    /// A turn at this moment: the row that it takes.
-    fn turn(&mut self, now: u64) -> Result<Option<Row>, Unplayed> {
-        let failover = self.failover.as_mut().ok_or(Unplayed::OutOfRange)?;
-        let act = failover.turn(&Facts {
-            now,
-            down: &self.down,
-            ..self.known
-        });
-        self.vote = act.vote;
-        Ok(act.row)
+    /// Tells the places of the replicas that the last turn gave an order.
+    fn tell_ordered(&self, told: &mut Told) {
+        let mut is_none = true;
+        for place in 0..=u16::MAX {
+            if usize::from(place) >= self.failover.node_count() {
+                break;
+            }
+            if self.failover.ordered(place) {
+                told.number(u64::from(place));
+                is_none = false;
+            }
+        }
+        if is_none {
+            told.word("None");
+        }
     }
 
     /// Tells what comes of a call with these words.
     pub(crate) fn play(
         &mut self,
         call: &str,
-        words: &[Vec<u8>],
+        words: &mut Words<'_>,
         told: &mut Told,
     ) -> Result<(), Unplayed> {
-        match (call, words) {
-            ("failover", [nodes]) => {
-                self.begin(number_16(nodes)?)?;
-                told.ok()
+        match call {
+            "know" => return self.know(words),
+            "turn" => {
+                let act = self.failover.turn(&Facts {
+                    now: words.number(),
+                    down: &self.down,
+                    ..self.known
+                });
+                self.vote = act.vote;
+                told.word(row_name(act.row));
             }
-            ("know", [fact, places @ ..]) if fact.as_slice() == b"down".as_slice() => {
-                self.know_down(places)?;
-                told.ok()
-            }
-            ("know", [fact, value]) => {
-                self.know(fact, value)?;
-                told.ok()
-            }
-            ("turn", [now]) => {
-                let row = self.turn(number(now)?)?;
-                told.word(row_name(row))
-            }
-            ("vote", []) => told.maybe_id(self.vote),
-            _ => {
-                let failover = self.failover.as_mut().ok_or(Unplayed::OutOfRange)?;
-                play_failover(failover, call, words, told)
-            }
+            "vote" => told.maybe_id(self.vote),
+            "state" => told.word(state_name(self.failover.state())),
+            "epoch" => told.maybe_number(self.failover.epoch()),
+            "choice" => told.maybe_number(self.failover.choice().map(u64::from)),
+            "ordered" => self.tell_ordered(told),
+            "mark" => self.failover.mark(words.number()),
+            "at" => self.failover.at(words.number()),
+            "promoted" => told.maybe_card(self.failover.promoted()),
+            "reconf" => self.failover.reconf(words.number_16(), words.number()),
+            "end" => self.failover.end(),
+            _ => return Err(Unplayed::NoSuchCall),
         }
+        Ok(())
+    }
+}
+
+/// Tells what comes of a call with these words, on the failover that has begun.
+pub(crate) fn play(
+    turns: &mut Option<Box<Turns>>,
+    alloc: Global,
+    call: &str,
+    words: &mut Words<'_>,
+    told: &mut Told,
+) -> Result<(), Unplayed> {
+    if call == "failover" {
+        *turns = Some(Box::new(alloc, Turns::new(alloc, words.number_16())?)?);
+        return Ok(());
+    }
+    match turns {
+        Some(turns) => turns.play(call, words, told),
+        None => Err(Unplayed::OutOfRange),
     }
 }

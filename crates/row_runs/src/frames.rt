@@ -3,27 +3,26 @@
 ghost use Rattle.std.specs.Prelude.{IfOk, IfSome};
 ghost use Rattle.resp2.specs.Framing.Frame.{view, HasLines};
 
-use crate::given::number;
 use crate::told::{Told, Unplayed};
+use crate::words::Words;
 use resp2::{FrameFault, Frames, OutText, Value, values_of_pieces, write_value};
 use std::alloc::Global;
 
 /// Tells a value: a line, an integer or a bulk string after the byte of its kind, and an array as how many items it has
 /// and then those.
-pub(crate) fn tell_value(value: &Value, told: &mut Told) -> Result<(), Unplayed> {
+pub(crate) fn tell_value(value: &Value, told: &mut Told) {
     match value {
-        Value::Simple(text) => told.marked('+', text.as_slice()),
-        Value::Fault(text) => told.marked('-', text.as_slice()),
-        Value::Int(number) => told.signed(':', *number),
-        Value::Bulk(text) => told.marked('$', text.as_slice()),
+        Value::Simple(text) => told.marked("+", text.as_slice()),
+        Value::Fault(text) => told.marked("-", text.as_slice()),
+        Value::Int(number) => told.numbered(":", *number, ""),
+        Value::Bulk(text) => told.marked("$", text.as_slice()),
         Value::NullBulk => told.word("NullBulk"),
         Value::NullItems => told.word("NullItems"),
         Value::Items(items) => {
-            told.signed('*', items.len() as i64)?;
+            told.numbered("*", items.len() as i64, "");
             for item in items {
-                tell_value(item, told)?;
+                tell_value(item, told);
             }
-            Ok(())
         }
     }
 }
@@ -55,45 +54,20 @@ pub(crate) fn next(frames: &mut Frames) -> Result<Option<Value>, FrameFault>
 }
 
 /// Tells the values that are whole, and then that more bytes are asked for, or the fault.
-fn tell_whole(frames: &mut Frames, told: &mut Told) -> Result<(), Unplayed> {
+fn tell_whole(frames: &mut Frames, told: &mut Told) {
     for _ in 0..u64::MAX {
         match next(frames) {
-            Ok(Some(value)) => tell_value(&value, told)?,
+            Ok(Some(value)) => tell_value(&value, told),
             Ok(None) => return told.word("more"),
             Err(fault) => return told.shown(&fault),
         }
     }
-    Ok(())
-}
-
-/// Tells what a reader gives after each of these pieces, and with which fault it refuses one.
-fn tell_pieces(alloc: Global, pieces: &[Vec<u8>], told: &mut Told) -> Result<(), Unplayed> {
-    let mut frames = Frames::new(alloc);
-    for piece in pieces {
-        if let Err(fault) = feed(&mut frames, piece) {
-            told.shown(&fault)?;
-        }
-        tell_whole(&mut frames, told)?;
-    }
-    Ok(())
-}
-
-/// Tells what a reader gives of each beginning of these bytes, from none of them to all but the last.
-fn tell_beginnings(alloc: Global, bytes: &[u8], told: &mut Told) -> Result<(), Unplayed> {
-    for end in 0..bytes.len() {
-        let mut frames = Frames::new(alloc);
-        if feed(&mut frames, &bytes[..end]).is_err() {
-            return Err(Unplayed::Changed);
-        }
-        tell_whole(&mut frames, told)?;
-    }
-    Ok(())
 }
 
 /// Tells what a reader gives of these bytes, one at a time, and before each value and the fault how often it asked for
 /// more.
-fn tell_by_bytes(alloc: Global, bytes: &[u8], told: &mut Told) -> Result<(), Unplayed> {
-    let mut frames = Frames::new(alloc);
+fn by_bytes(alloc: Global, bytes: &[u8]) -> Result<Told, Unplayed> {
+    let (mut frames, mut told) = (Frames::new(alloc), Told::new(alloc));
     let mut asked: u64 = 0;
     for byte in bytes {
         if feed(&mut frames, &[*byte]).is_err() {
@@ -102,67 +76,40 @@ fn tell_by_bytes(alloc: Global, bytes: &[u8], told: &mut Told) -> Result<(), Unp
         match next(&mut frames) {
             Ok(None) => asked = asked.saturating_add(1),
             Ok(Some(value)) => {
-                told.number(asked)?;
-                tell_value(&value, told)?;
+                told.number(asked);
+                tell_value(&value, &mut told);
                 asked = 0;
             }
             Err(fault) => {
-                told.number(asked)?;
-                return told.shown(&fault);
+                told.number(asked);
+                told.shown(&fault);
+                return Ok(told);
             }
         }
     }
-    tell_whole(&mut frames, told)
-}
-
-/// The same, as many times as that; it is told once, and another answer to the same bytes after it.
-fn tell_rounds(alloc: Global, rounds: u64, bytes: &[u8], told: &mut Told) -> Result<(), Unplayed> {
-    tell_by_bytes(alloc, bytes, told)?;
-    for _ in 1..rounds {
-        let mut again = Told::new(alloc);
-        tell_by_bytes(alloc, bytes, &mut again)?;
-        if again.as_str() != told.as_str() {
-            return told.word(again.as_str());
-        }
-    }
-    Ok(())
+    tell_whole(&mut frames, &mut told);
+    Ok(told)
 }
 
 /// Tells the values of a stream in these pieces.
-fn tell_values(alloc: Global, pieces: &[Vec<u8>], told: &mut Told) -> Result<(), Unplayed> {
+fn tell_values(alloc: Global, pieces: &[Vec<u8>], told: &mut Told) {
     match values_of_pieces(alloc, pieces) {
         Ok(values) => {
             for value in values.as_slice() {
-                tell_value(value, told)?;
+                tell_value(value, told);
             }
-            Ok(())
         }
         Err(fault) => told.shown(&fault),
     }
 }
 
 /// Tells the values of a stream that is cut in two at this place.
-fn tell_halves(alloc: Global, bytes: &[u8], place: usize, told: &mut Told) -> Result<(), Unplayed> {
+fn halves(alloc: Global, bytes: &[u8], place: usize) -> Result<Told, Unplayed> {
     let (front, back) = bytes.split_at(place.min(bytes.len()));
-    let mut pieces = Vec::new(alloc);
-    pieces.push(Vec::from_slice(alloc, front)?)?;
-    pieces.push(Vec::from_slice(alloc, back)?)?;
-    tell_values(alloc, &pieces, told)
-}
-
-/// Tells the values of a stream, if they are the same wherever it is cut in two.
-fn tell_cuts(alloc: Global, bytes: &[u8], told: &mut Told) -> Result<(), Unplayed> {
-    tell_halves(alloc, bytes, 0, told)?;
-    for place in 1..bytes.len() {
-        let mut again = Told::new(alloc);
-        tell_halves(alloc, bytes, place, &mut again)?;
-        if again.as_str() != told.as_str() {
-            told.word("and cut at")?;
-            told.number(place as u64)?;
-            return told.word(again.as_str());
-        }
-    }
-    Ok(())
+    let pieces = vec![in alloc; Vec::from_slice(alloc, front)?, Vec::from_slice(alloc, back)?]?;
+    let mut told = Told::new(alloc);
+    tell_values(alloc, &pieces, &mut told);
+    Ok(told)
 }
 
 /// Adds what is written of a value, once more where that lacked memory.
@@ -175,18 +122,6 @@ fn write(value: &Value, text: &mut OutText) -> Result<(), Unplayed>
     Ok(())
 }
 
-/// Adds what is written of the values that are whole.
-fn write_whole(frames: &mut Frames, text: &mut OutText) -> Result<(), Unplayed> {
-    for _ in 0..u64::MAX {
-        match next(frames) {
-            Ok(Some(value)) => write(&value, text)?,
-            Ok(None) => return Ok(()),
-            Err(_) => return Err(Unplayed::Changed),
-        }
-    }
-    Ok(())
-}
-
 /// What is written of the values of these bytes, which come in pieces of this size.
 fn written_again(alloc: Global, size: usize, bytes: &[u8]) -> Result<OutText, Unplayed> {
     let mut frames = Frames::new(alloc);
@@ -195,58 +130,93 @@ fn written_again(alloc: Global, size: usize, bytes: &[u8]) -> Result<OutText, Un
         if feed(&mut frames, piece).is_err() {
             return Err(Unplayed::Changed);
         }
-        write_whole(&mut frames, &mut text)?;
+        for _ in 0..u64::MAX {
+            match next(&mut frames) {
+                Ok(Some(value)) => write(&value, &mut text)?,
+                Ok(None) => break,
+                Err(_) => return Err(Unplayed::Changed),
+            }
+        }
     }
     Ok(text)
 }
 
-/// Adds bytes one at a time, each once more where that lacked memory.
-fn add_by_bytes(text: &mut OutText, bytes: &[u8]) -> Result<(), Unplayed> {
-    for byte in bytes {
-        if text.add(&[*byte]).is_err() && text.add(&[*byte]).is_err() {
-            return Err(Unplayed::Changed);
-        }
-    }
-    Ok(())
-}
-
-/// Tells how long a text of these two is, its first part, and what is left of it when it is cleared.
+/// Tells how long a text is with these bytes behind it, its first part, and what is left of it when it is cleared. The
+/// bytes are added one at a time, each once more where that lacked memory.
 fn tell_parts(
-    alloc: Global,
-    bytes: &[u8],
+    mut text: OutText,
     others: &[u8],
     len: usize,
     told: &mut Told,
 ) -> Result<(), Unplayed> {
-    let mut text = written_again(alloc, bytes.len(), bytes)?;
-    add_by_bytes(&mut text, others)?;
-    told.number(text.len() as u64)?;
+    for byte in others {
+        if text.add(&[*byte]).is_err() && text.add(&[*byte]).is_err() {
+            return Err(Unplayed::Changed);
+        }
+    }
+    told.number(text.len() as u64);
     text.truncate(len);
-    told.bytes(text.as_slice())?;
+    told.bytes(text.as_slice());
     text.clear();
-    told.bytes(text.as_slice())
+    told.bytes(text.as_slice());
+    Ok(())
+}
+
+/// Tells what a reader gives of these bytes after those it was given.
+fn tell_fed(frames: &mut Frames, piece: &[u8], told: &mut Told) {
+    if let Err(fault) = feed(frames, piece) {
+        told.shown(&fault);
+    }
+    tell_whole(frames, told);
 }
 
 /// Tells what comes of a call with these words.
 pub(crate) fn play(
     alloc: Global,
     call: &str,
-    words: &[Vec<u8>],
+    words: &mut Words<'_>,
     told: &mut Told,
 ) -> Result<(), Unplayed> {
-    match (call, words) {
-        ("next", pieces) => tell_pieces(alloc, pieces, told),
-        ("next_each_beginning", [bytes]) => tell_beginnings(alloc, bytes, told),
-        ("next_by_bytes", [rounds, bytes]) => tell_rounds(alloc, number(rounds)?, bytes, told),
-        ("values_of_pieces", pieces) => tell_values(alloc, pieces, told),
-        ("values_of_two_pieces", [bytes]) => tell_cuts(alloc, bytes, told),
-        ("write_value", [size, bytes]) => {
-            let text = written_again(alloc, number(size)? as usize, bytes)?;
-            told.bytes(text.as_slice())
+    match call {
+        "next" => {
+            let mut frames = Frames::new(alloc);
+            for piece in words.rest() {
+                tell_fed(&mut frames, piece, told);
+            }
         }
-        ("out_text", [bytes, others, len]) => {
-            tell_parts(alloc, bytes, others, number(len)? as usize, told)
+        "next_each_beginning" => {
+            let bytes = words.bytes();
+            for end in 0..bytes.len() {
+                tell_fed(&mut Frames::new(alloc), &bytes[..end], told);
+            }
         }
-        _ => Err(Unplayed::NoSuchCall),
+        "next_by_bytes" => {
+            let (rounds, bytes) = (words.number(), words.bytes());
+            for _ in 0..rounds {
+                if !told.is_same(&by_bytes(alloc, bytes)?) {
+                    break;
+                }
+            }
+        }
+        "values_of_pieces" => tell_values(alloc, words.rest(), told),
+        "values_of_two_pieces" => {
+            let bytes = words.bytes();
+            for place in 0..bytes.len().max(1) {
+                if !told.is_same(&halves(alloc, bytes, place)?) {
+                    break;
+                }
+            }
+        }
+        "write_value" => {
+            let (size, bytes) = (words.number(), words.bytes());
+            told.bytes(written_again(alloc, size as usize, bytes)?.as_slice());
+        }
+        "out_text" => {
+            let bytes = words.bytes();
+            let text = written_again(alloc, bytes.len(), bytes)?;
+            tell_parts(text, words.bytes(), words.number() as usize, told)?;
+        }
+        _ => return Err(Unplayed::NoSuchCall),
     }
+    Ok(())
 }

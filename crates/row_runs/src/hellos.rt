@@ -1,70 +1,52 @@
 //! Hellos, what a Sentinel publishes on the channel `__sentinel__:hello`.
 
-ghost use Rattle.std.specs.Prelude.{IfOk};
-ghost use Rattle.ballot_law.specs.Hellos.{IsHello};
-
 use crate::told::{Told, Unplayed};
-use ballot_law::Hello;
-use node_texts::{TextFault, read_hello, write_hello};
+use crate::words::Words;
+use node_texts::{read_hello, write_hello};
 use resp2::OutText;
 use std::alloc::Global;
 
-/// What these bytes say, or their fault.
-fn said(bytes: &[u8]) -> Result<Hello, TextFault>
-    ensures { IfOk result IsHello }
-{
-    read_hello(bytes)
-}
-
-/// Tells a hello.
-fn tell(hello: &Hello, told: &mut Told) -> Result<(), Unplayed> {
-    told.address(hello.addr)?;
-    told.maybe_id(Some(hello.id))?;
-    told.number(hello.current)?;
-    told.bytes(hello.master.as_slice())?;
-    told.address(hello.card.addr)?;
-    told.number(hello.card.epoch)
-}
-
 /// Tells what these bytes say, or their fault.
-fn tell_said(bytes: &[u8], told: &mut Told) -> Result<(), Unplayed> {
-    match said(bytes) {
-        Ok(hello) => tell(&hello, told),
+fn tell_said(bytes: &[u8], told: &mut Told) {
+    match read_hello(bytes) {
+        Ok(hello) => {
+            told.address(hello.addr);
+            told.maybe_id(Some(hello.id));
+            told.number(hello.current);
+            told.bytes(hello.master.as_slice());
+            told.address(hello.card.addr);
+            told.number(hello.card.epoch);
+        }
         Err(fault) => told.shown(&fault),
     }
 }
 
-/// Tells what is written, once more where that lacked memory, of the hello that these bytes say.
-fn tell_written(alloc: Global, bytes: &[u8], told: &mut Told) -> Result<(), Unplayed> {
-    let Ok(hello) = said(bytes) else {
-        return Err(Unplayed::WrongWords);
-    };
-    let mut text = OutText::new(alloc);
-    if write_hello(&hello, &mut text).is_err() && write_hello(&hello, &mut text).is_err() {
-        return Err(Unplayed::Changed);
-    }
-    told.bytes(text.as_slice())
-}
-
-/// Tells what each beginning of these bytes says, from none of them to all but the last.
-fn tell_beginnings(bytes: &[u8], told: &mut Told) -> Result<(), Unplayed> {
-    for end in 0..bytes.len() {
-        tell_said(&bytes[..end], told)?;
-    }
-    Ok(())
-}
-
-/// Tells what comes of a call with these words.
+/// Tells what comes of a call with these words. What lacks memory as it is written is written once more.
 pub(crate) fn play(
     alloc: Global,
     call: &str,
-    words: &[Vec<u8>],
+    words: &mut Words<'_>,
     told: &mut Told,
 ) -> Result<(), Unplayed> {
-    match (call, words) {
-        ("read_hello", [bytes]) => tell_said(bytes, told),
-        ("read_each_beginning", [bytes]) => tell_beginnings(bytes, told),
-        ("write_hello", [bytes]) => tell_written(alloc, bytes, told),
-        _ => Err(Unplayed::NoSuchCall),
+    let bytes = words.bytes();
+    match call {
+        "read_hello" => tell_said(bytes, told),
+        "read_each_beginning" => {
+            for end in 0..bytes.len() {
+                tell_said(&bytes[..end], told);
+            }
+        }
+        "write_hello" => {
+            let Ok(hello) = read_hello(bytes) else {
+                return Err(Unplayed::WrongWords);
+            };
+            let mut text = OutText::new(alloc);
+            if write_hello(&hello, &mut text).is_err() && write_hello(&hello, &mut text).is_err() {
+                return Err(Unplayed::Changed);
+            }
+            told.bytes(text.as_slice());
+        }
+        _ => return Err(Unplayed::NoSuchCall),
     }
+    Ok(())
 }

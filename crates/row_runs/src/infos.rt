@@ -4,6 +4,7 @@ ghost use Rattle.std.specs.Prelude.{IsTrue};
 ghost use Rattle.node_texts.specs.Infos.{IsInfo};
 
 use crate::told::{Told, Unplayed};
+use crate::words::Words;
 use ballot_law::{DataRole, Info};
 use node_texts::{read_info, write_info};
 use resp2::OutText;
@@ -12,24 +13,21 @@ use std::alloc::Global;
 /// The greatest number of an INFO.
 const MOST: u64 = 9_223_372_036_854_775_807;
 
-/// Tells what an INFO says.
-fn tell(info: &Info, told: &mut Told) -> Result<(), Unplayed> {
-    told.maybe_id(info.id)?;
-    told.word(match info.role {
-        DataRole::Master => "Master",
-        DataRole::Replica => "Replica",
-    })?;
-    told.maybe_address(info.master)?;
-    told.word(if info.link_up { "up" } else { "down" })?;
-    told.number(info.link_down_s)?;
-    told.number(info.priority)?;
-    told.number(info.offset)
-}
-
 /// Tells what these bytes say, or their fault.
-fn tell_said(bytes: &[u8], told: &mut Told) -> Result<(), Unplayed> {
+fn tell_said(bytes: &[u8], told: &mut Told) {
     match read_info(bytes) {
-        Ok(info) => tell(&info, told),
+        Ok(info) => {
+            told.maybe_id(info.id);
+            told.word(match info.role {
+                DataRole::Master => "Master",
+                DataRole::Replica => "Replica",
+            });
+            told.maybe_address(info.master);
+            told.word(if info.link_up { "up" } else { "down" });
+            told.number(info.link_down_s);
+            told.number(info.priority);
+            told.number(info.offset);
+        }
         Err(fault) => told.shown(&fault),
     }
 }
@@ -46,40 +44,35 @@ pub(crate) fn can_be_written(info: &Info) -> bool
     has_port && info.link_down_s <= MOST && info.priority <= MOST && info.offset <= MOST
 }
 
-/// Tells what is written, once more where that lacked memory, of the INFO that these bytes say.
-fn tell_written(alloc: Global, bytes: &[u8], told: &mut Told) -> Result<(), Unplayed> {
-    let Ok(info) = read_info(bytes) else {
-        return Err(Unplayed::WrongWords);
-    };
-    if !can_be_written(&info) {
-        return Err(Unplayed::WrongWords);
-    }
-    let mut text = OutText::new(alloc);
-    if write_info(&info, &mut text).is_err() && write_info(&info, &mut text).is_err() {
-        return Err(Unplayed::Changed);
-    }
-    told.bytes(text.as_slice())
-}
-
-/// Tells what each beginning of these bytes says, from none of them to all.
-fn tell_beginnings(bytes: &[u8], told: &mut Told) -> Result<(), Unplayed> {
-    for end in 0..=bytes.len() {
-        tell_said(&bytes[..end], told)?;
-    }
-    Ok(())
-}
-
-/// Tells what comes of a call with these words.
+/// Tells what comes of a call with these words. What lacks memory as it is written is written once more.
 pub(crate) fn play(
     alloc: Global,
     call: &str,
-    words: &[Vec<u8>],
+    words: &mut Words<'_>,
     told: &mut Told,
 ) -> Result<(), Unplayed> {
-    match (call, words) {
-        ("read_info", [bytes]) => tell_said(bytes, told),
-        ("read_each_beginning", [bytes]) => tell_beginnings(bytes, told),
-        ("write_info", [bytes]) => tell_written(alloc, bytes, told),
-        _ => Err(Unplayed::NoSuchCall),
+    let bytes = words.bytes();
+    match call {
+        "read_info" => tell_said(bytes, told),
+        "read_each_beginning" => {
+            for end in 0..=bytes.len() {
+                tell_said(&bytes[..end], told);
+            }
+        }
+        "write_info" => {
+            let Ok(info) = read_info(bytes) else {
+                return Err(Unplayed::WrongWords);
+            };
+            if !can_be_written(&info) {
+                return Err(Unplayed::WrongWords);
+            }
+            let mut text = OutText::new(alloc);
+            if write_info(&info, &mut text).is_err() && write_info(&info, &mut text).is_err() {
+                return Err(Unplayed::Changed);
+            }
+            told.bytes(text.as_slice());
+        }
+        _ => return Err(Unplayed::NoSuchCall),
     }
+    Ok(())
 }

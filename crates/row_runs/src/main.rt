@@ -22,7 +22,6 @@ mod down_states;
 mod events;
 mod failover_turns;
 mod frames;
-mod given;
 mod hellos;
 mod infos;
 mod link_talks;
@@ -35,17 +34,27 @@ mod rosters;
 mod scenario_lines;
 mod sentinels;
 mod spelling;
-mod stages;
 mod stores;
 mod told;
 mod votes_and_elections;
 mod watch_confs;
+mod words;
 mod words_and_numbers;
 mod writable;
 
+use crate::broken_streams::BrokenStreams;
+use crate::conversations::Talk;
+use crate::down_states::DownStates;
+use crate::failover_turns::Turns;
+use crate::nodes::Kind;
+use crate::sentinels::Lone;
 use crate::spelling::{add_spelling, bytes_of, written_out};
-use crate::stages::Stage;
 use crate::told::{Told, Unplayed};
+use crate::votes_and_elections::Votes;
+use crate::words::Words;
+use client_queries::Quest;
+use replica_choice::Candidate;
+use std::alloc::Global;
 use std::io::ErrorKind;
 use std::sync::Wait;
 use std::{env, fs, io};
@@ -56,7 +65,7 @@ fn play(
     rt: &HostRuntime,
     family: &str,
     call: &str,
-    words: &[Vec<u8>],
+    words: &mut Words<'_>,
     told: &mut Told,
 ) -> Result<(), Unplayed> {
     match family {
@@ -83,6 +92,70 @@ fn play(
         "watch_confs" => watch_confs::play(rt.alloc(), call, words, told),
         "words_and_numbers" => words_and_numbers::play(rt.alloc(), call, words, told),
         _ => Err(Unplayed::NoSuchFamily),
+    }
+}
+
+/// What the rows of a section act on, one after another: what was made in it, nothing when it begins.
+#[derive(Drop)]
+struct Stage {
+    votes: Votes,
+    states: DownStates,
+    replicas: Vec<Candidate>,
+    quest: Option<Box<Quest>>,
+    turns: Option<Box<Turns>>,
+    lone: Option<Box<Lone>>,
+    streams: Option<Box<BrokenStreams>>,
+    node: Option<Kind>,
+    talk: Option<Box<Talk>>,
+}
+
+impl Stage {
+    /// What the rows of a section act on when it begins.
+    fn boxed(alloc: Global) -> Result<Box<Stage>, Unplayed> {
+        let stage = Stage {
+            votes: Votes::new(alloc)?,
+            states: DownStates::new(alloc)?,
+            replicas: Vec::new(alloc),
+            quest: None,
+            turns: None,
+            lone: None,
+            streams: None,
+            node: None,
+            talk: None,
+        };
+        Ok(Box::new(alloc, stage)?)
+    }
+
+    /// Tells what comes of a call with these words.
+    fn play<R: Wait>(
+        &mut self,
+        rt: &HostRuntime,
+        wait: &R,
+        family: &str,
+        call: &str,
+        words: &mut Words<'_>,
+        told: &mut Told,
+    ) -> Result<(), Unplayed> {
+        let alloc = rt.alloc();
+        match family {
+            "votes_and_elections" => {
+                votes_and_elections::play(&mut self.votes, alloc, call, words, told)
+            }
+            "down_states" => down_states::play(&mut self.states, alloc, call, words, told),
+            "best_replica" => best_replica::play(&mut self.replicas, call, words, told),
+            "client_searches" => client_searches::play(&mut self.quest, alloc, call, words, told),
+            "failover_turns" => failover_turns::play(&mut self.turns, alloc, call, words, told),
+            "every_command" | "failovers" | "notices" | "redis_profile" | "port_texts"
+            | "refusals" | "refused_memory" | "refused_votes" | "served_streams"
+            | "silent_masters" => sentinels::play(&mut self.lone, alloc, call, words, told),
+            "broken_streams" => broken_streams::play(&mut self.streams, alloc, call, words, told),
+            "clients" | "data_nodes_alone" => nodes::play(&mut self.node, alloc, call, words, told),
+            "courteous_streams" | "endings" | "listeners" | "refused_memory_of_sessions"
+            | "resp3" | "seats" | "single_answers" | "streams" => {
+                conversations::play(&mut self.talk, alloc, wait, call, words, told)
+            }
+            _ => play(rt, family, call, words, told),
+        }
     }
 }
 
@@ -147,19 +220,13 @@ fn play_row<R: Wait>(
         return Err(Unplayed::NoArrow);
     };
     let wanted = wanted_of(rt, back)?;
-    let words = words_of(rt, front)?;
+    let given = words_of(rt, front)?;
     let call = front.split(' ').next().unwrap_or("");
+    let mut words = Words::of(given.as_slice());
     let mut came = Told::with_room(rt.alloc())?;
-    if matches!(stage, Stage::NotSet) {
-        *stage = Stage::of(rt.alloc(), family)?;
-    }
-    match stage {
-        Stage::Empty => play(rt, family, call, &words, &mut came)?,
-        stage => stage.play(wait, call, &words, &mut came)?,
-    }
-    if came.as_str().is_empty() {
-        return Err(Unplayed::NothingTold);
-    }
+    stage.play(rt, wait, family, call, &mut words, &mut came)?;
+    words.end()?;
+    came.end()?;
     Ok(Played { came, wanted })
 }
 
@@ -177,6 +244,11 @@ fn play_at_last<R: Wait>(
     }
 }
 
+/// What the rows of a section act on when it begins.
+fn begun(alloc: Global) -> io::Result<Box<Stage>> {
+    Stage::boxed(alloc).map_err(|_| io::Error::from(ErrorKind::OutOfMemory))
+}
+
 /// A file of rows that is played.
 #[derive(Drop)]
 struct Sheet<'a, R: Wait> {
@@ -187,7 +259,7 @@ struct Sheet<'a, R: Wait> {
     prefix: &'a str,
     /// Whether the section that has begun is played.
     is_played: bool,
-    /// What its rows act on.
+    /// What the rows of its section act on.
     stage: Box<Stage>,
     /// How many rows have been played.
     rows: u64,
@@ -226,12 +298,13 @@ impl<R: Wait> Sheet<'_, R> {
     }
 
     /// Begins the section of this title.
-    fn begin(&mut self, title: &str) {
+    fn begin(&mut self, title: &str) -> io::Result<()> {
         self.is_played = title.starts_with(self.prefix);
         if self.is_played {
             self.sections = self.sections.saturating_add(1);
-            *self.stage = Stage::NotSet;
+            self.stage = begun(self.rt.alloc())?;
         }
+        Ok(())
     }
 
     /// Takes the line at a place: one that begins with two blanks goes on with the row before it.
@@ -242,7 +315,7 @@ impl<R: Wait> Sheet<'_, R> {
             self.place = place;
         }
         if let Some(title) = title_of(line) {
-            self.begin(title);
+            self.begin(title)?;
         }
         if !self.is_played || line.starts_with('#') {
             return Ok(());
@@ -277,7 +350,7 @@ fn play_sheet<R: Wait>(
         family,
         prefix,
         is_played: prefix.is_empty(),
-        stage: Box::new(rt.alloc(), Stage::NotSet)?,
+        stage: begun(rt.alloc())?,
         rows: 0,
         sections: 0,
         row: String::new(rt.alloc()),

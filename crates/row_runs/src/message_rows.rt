@@ -6,10 +6,10 @@ ghost use Rattle.ballot_law.specs.Limits.{IsWithinBody};
 
 use crate::bodies::body;
 use crate::commands::{tell_command, value_of};
-use crate::events::{node, tell_node};
+use crate::events::tell_node;
 use crate::frames::tell_value;
-use crate::given::number;
 use crate::told::{Told, Unplayed};
+use crate::words::Words;
 use crate::writable::can_write;
 use ballot_law::{Body, Event, Message, NodeName, Output, PingReply, Roster, Shown};
 use fault_world::{add_comment, add_message};
@@ -18,28 +18,14 @@ use resp2::OutText;
 use std::alloc::Global;
 
 /// Tells the configurations that an answer shows: the number of the master, the epoch and the address of each.
-fn tell_shown(shown: &[Shown], told: &mut Told) -> Result<(), Unplayed> {
+fn tell_shown(shown: &[Shown], told: &mut Told) {
     if !shown.is_empty() {
-        told.word("shows")?;
+        told.word("shows");
     }
     for one in shown {
-        told.number(u64::from(one.master))?;
-        told.number(one.card.epoch)?;
-        told.address(one.card.addr)?;
-    }
-    Ok(())
-}
-
-/// Tells what a message says besides its bytes: the master that an answer is about, the configurations that it shows.
-fn tell_unwritten(body: &Body, told: &mut Told) -> Result<(), Unplayed> {
-    match body {
-        Body::Answer { master, .. } => {
-            told.word("about")?;
-            told.number(u64::from(*master))
-        }
-        Body::AddressAnswer(Some(shown)) => tell_shown(&[*shown], told),
-        Body::PortReply { shown, .. } => tell_shown(shown.as_slice(), told),
-        _ => Ok(()),
+        told.number(u64::from(one.master));
+        told.number(one.card.epoch);
+        told.address(one.card.addr);
     }
 }
 
@@ -53,34 +39,42 @@ fn bytes_of(alloc: Global, message: &Message) -> Result<OutText, Unplayed> {
     Ok(text)
 }
 
-/// Tells a message: its target, the value that it is on the wire, and what isn't on the wire.
+/// Tells a message: its target, the value that it is on the wire, and what isn't on the wire, the master that an answer
+/// is about and the configurations that it shows.
 pub(crate) fn tell_message(
     alloc: Global,
     message: &Message,
     told: &mut Told,
 ) -> Result<(), Unplayed> {
     let text = bytes_of(alloc, message)?;
-    tell_node(message.target, told)?;
-    tell_value(&value_of(alloc, text.as_slice())?, told)?;
-    tell_unwritten(&message.body, told)
-}
-
-/// Whether an output is a message that a Sentinel sends again and again: PING, INFO, a hello.
-pub(crate) fn is_routine(output: &Output) -> bool {
-    match output {
-        Output::Send(message) => matches!(
-            message.body,
-            Body::Ping | Body::InfoAsk | Body::Publish(_)
-        ),
-        Output::Tell(_) => false,
+    tell_node(message.target, told);
+    tell_value(&value_of(alloc, text.as_slice())?, told);
+    match &message.body {
+        Body::Answer { master, .. } => {
+            told.word("about");
+            told.number(u64::from(*master));
+        }
+        Body::AddressAnswer(Some(shown)) => tell_shown(&[*shown], told),
+        Body::PortReply { shown, .. } => tell_shown(shown.as_slice(), told),
+        _ => {}
     }
+    Ok(())
 }
 
-/// Whether an output is a hello.
-pub(crate) fn is_hello(output: &Output) -> bool {
-    match output {
-        Output::Send(message) => matches!(message.body, Body::Publish(_)),
-        Output::Tell(_) => false,
+/// Whether a call tells an output: `hellos` the hellos, `all` each, and others all but PING, INFO and hellos.
+pub(crate) fn is_told(call: &str, output: &Output) -> bool {
+    let (is_hello, is_routine) = match output {
+        Output::Send(message) => match message.body {
+            Body::Publish(_) => (true, true),
+            Body::Ping | Body::InfoAsk => (false, true),
+            _ => (false, false),
+        },
+        Output::Tell(_) => (false, false),
+    };
+    match call {
+        "hellos" => is_hello,
+        "all" => true,
+        _ => !is_routine,
     }
 }
 
@@ -95,114 +89,100 @@ pub(crate) fn tell_output(
         Output::Send(message) => tell_message(alloc, message, told),
         Output::Tell(note) => {
             let master = roster.masters().get(usize::from(note.master));
-            told.word("+switch-master")?;
-            told.bytes(master.ok_or(Unplayed::OutOfRange)?.name.as_slice())?;
-            told.address(note.old)?;
-            told.address(note.card.addr)
+            told.word("+switch-master");
+            told.bytes(master.ok_or(Unplayed::OutOfRange)?.name.as_slice());
+            told.address(note.old);
+            told.address(note.card.addr);
+            Ok(())
         }
     }
 }
 
-/// Tells the first text with comments after it.
-fn tell_comments(alloc: Global, words: &[Vec<u8>], told: &mut Told) -> Result<(), Unplayed> {
-    let [first, comments @ ..] = words else {
-        return Err(Unplayed::WrongWords);
-    };
-    let mut text = OutText::new(alloc);
-    text.add(first)?;
-    for comment in comments {
-        add_comment(&mut text, comment)?;
-    }
-    told.bytes(text.as_slice())
-}
-
-/// The message of a sender to a target that says this.
+/// The message of a sender to a target that says what these words say, all of them.
 pub(crate) fn message(
     alloc: Global,
-    sender: &[u8],
-    target: &[u8],
-    words: &[Vec<u8>],
+    sender: NodeName,
+    target: NodeName,
+    words: &mut Words<'_>,
 ) -> Result<Message, Unplayed>
     ensures within { IfOk result (λ message. IsWithinBody message.body) }
     ensures writable { IfOk result (λ message. IsWritable message.body) }
 {
+    let body = body(alloc, words)?;
+    words.end()?;
     Ok(Message {
-        sender: node(sender)?,
-        target: node(target)?,
-        body: body(alloc, words)?,
+        sender,
+        target,
+        body,
     })
 }
 
-/// The name of what an answer to a PING counts as.
-fn reply_name(reply: PingReply) -> &'static str {
-    match reply {
-        PingReply::Pong => "Pong",
-        PingReply::Loading => "Loading",
-        PingReply::MasterDown => "MasterDown",
-        PingReply::Other => "Other",
+/// Tells what a voter says of a master, or of which node another event is.
+fn tell_heard(event: &Event, told: &mut Told) {
+    match event {
+        Event::Pinged { node, reply } => {
+            told.word("Pinged");
+            tell_node(*node, told);
+            told.word(match reply {
+                PingReply::Pong => "Pong",
+                PingReply::Loading => "Loading",
+                PingReply::MasterDown => "MasterDown",
+                PingReply::Other => "Other",
+            });
+        }
+        Event::Answered {
+            voter,
+            master,
+            addr,
+            down,
+            leader,
+            epoch,
+        } => {
+            told.word("Answered");
+            tell_node(*voter, told);
+            told.number(u64::from(*master));
+            told.address(*addr);
+            told.word(if *down { "down" } else { "up" });
+            told.maybe_id(*leader);
+            told.number(*epoch);
+        }
+        Event::InfoRead { node, text } => {
+            told.word("InfoRead");
+            tell_node(*node, told);
+            told.bytes(text.as_slice());
+        }
+        Event::HelloRead { text } => {
+            told.word("HelloRead");
+            told.bytes(text.as_slice());
+        }
+        Event::Refused { node } => {
+            told.word("Refused");
+            tell_node(*node, told);
+        }
+        Event::Disconnected { node } => {
+            told.word("Disconnected");
+            tell_node(*node, told);
+        }
+        _ => told.word("another-event"),
     }
-}
-
-/// Tells what a voter says of a master, if the event is that.
-fn tell_answered(event: &Event, told: &mut Told) -> Result<(), Unplayed> {
-    let Event::Answered {
-        voter,
-        master,
-        addr,
-        down,
-        leader,
-        epoch,
-    } = event
-    else {
-        return Err(Unplayed::WrongWords);
-    };
-    told.word("Answered")?;
-    tell_node(*voter, told)?;
-    told.number(u64::from(*master))?;
-    told.address(*addr)?;
-    told.word(if *down { "down" } else { "up" })?;
-    told.maybe_id(*leader)?;
-    told.number(*epoch)
 }
 
 /// Tells an event that a message becomes.
 pub(crate) fn tell_event(alloc: Global, event: &Event, told: &mut Told) -> Result<(), Unplayed> {
     match event {
         Event::Command { sender, command } => {
-            told.word("Command")?;
-            tell_node(*sender, told)?;
-            tell_command(command, told)
-        }
-        Event::Pinged { node, reply } => {
-            told.word("Pinged")?;
-            tell_node(*node, told)?;
-            told.word(reply_name(*reply))
-        }
-        Event::Answered { .. } => tell_answered(event, told),
-        Event::InfoRead { node, text } => {
-            told.word("InfoRead")?;
-            tell_node(*node, told)?;
-            told.bytes(text.as_slice())
-        }
-        Event::HelloRead { text } => {
-            told.word("HelloRead")?;
-            told.bytes(text.as_slice())
-        }
-        Event::Refused { node } => {
-            told.word("Refused")?;
-            tell_node(*node, told)
-        }
-        Event::Disconnected { node } => {
-            told.word("Disconnected")?;
-            tell_node(*node, told)
+            told.word("Command");
+            tell_node(*sender, told);
+            tell_command(command, told);
         }
         Event::Handed(message) => {
-            told.word("Handed")?;
-            tell_node(message.sender, told)?;
-            tell_message(alloc, message, told)
+            told.word("Handed");
+            tell_node(message.sender, told);
+            tell_message(alloc, message, told)?;
         }
-        _ => told.word("another-event"),
+        event => tell_heard(event, told),
     }
+    Ok(())
 }
 
 /// Tells what a copy of a message becomes at its target.
@@ -212,9 +192,10 @@ fn tell_delivered(alloc: Global, message: &Message, told: &mut Told) -> Result<(
 {
     let copy = copy_of(alloc, message)?;
     match event_of(alloc, &copy)? {
-        Some(event) => tell_event(alloc, &event, told),
+        Some(event) => tell_event(alloc, &event, told)?,
         None => told.word("None"),
     }
+    Ok(())
 }
 
 /// Tells the comment of a message with a number.
@@ -228,7 +209,8 @@ fn tell_comment(
 {
     let mut text = OutText::new(alloc);
     add_message(alloc, &mut text, number as usize, message)?;
-    told.bytes(text.as_slice())
+    told.bytes(text.as_slice());
+    Ok(())
 }
 
 /// Tells the bytes of a message that is added to a text so often, each time once more where that lacked memory.
@@ -245,31 +227,43 @@ fn tell_often(alloc: Global, times: u64, message: &Message, told: &mut Told) -> 
             message_text(alloc, message, &mut text)?;
         }
     }
-    told.bytes(text.as_slice())
+    told.bytes(text.as_slice());
+    Ok(())
 }
 
 /// Tells what comes of a call with these words.
 pub(crate) fn play(
     alloc: Global,
     call: &str,
-    words: &[Vec<u8>],
+    words: &mut Words<'_>,
     told: &mut Told,
 ) -> Result<(), Unplayed> {
-    match (call, words) {
-        ("message_text", words) => {
-            let message = message(alloc, b"s0", b"s1", words)?;
-            told.bytes(bytes_of(alloc, &message)?.as_slice())
-        }
-        ("message_texts", [times, words @ ..]) => {
-            let message = message(alloc, b"s0", b"s1", words)?;
-            tell_often(alloc, number(times)?, &message, told)
-        }
-        ("add_message", [place, sender, target, words @ ..]) => {
+    let (sender, target) = (NodeName::SentinelAt(0), NodeName::SentinelAt(1));
+    match call {
+        "message_text" => {
             let message = message(alloc, sender, target, words)?;
-            tell_comment(alloc, number(place)?, &message, told)
+            told.bytes(bytes_of(alloc, &message)?.as_slice());
+            Ok(())
         }
-        ("add_comment", words) => tell_comments(alloc, words, told),
-        ("event_of", [sender, target, words @ ..]) => {
+        "message_texts" => {
+            let times = words.number();
+            tell_often(alloc, times, &message(alloc, sender, target, words)?, told)
+        }
+        "add_message" => {
+            let (place, sender, target) = (words.number(), words.node(), words.node());
+            tell_comment(alloc, place, &message(alloc, sender, target, words)?, told)
+        }
+        "add_comment" => {
+            let mut text = OutText::new(alloc);
+            text.add(words.bytes())?;
+            for comment in words.rest() {
+                add_comment(&mut text, comment)?;
+            }
+            told.bytes(text.as_slice());
+            Ok(())
+        }
+        "event_of" => {
+            let (sender, target) = (words.node(), words.node());
             tell_delivered(alloc, &message(alloc, sender, target, words)?, told)
         }
         _ => Err(Unplayed::NoSuchCall),

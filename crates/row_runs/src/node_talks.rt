@@ -4,19 +4,21 @@ ghost use Rattle.node_texts.specs.Infos.{IsInfo};
 
 use crate::infos::can_be_written;
 use crate::told::{Told, Unplayed};
+use crate::words::Words;
 use ballot_law::Info;
 use data_node_port::Session;
 use node_texts::read_info;
 use std::alloc::Global;
 
-/// Answers the commands that are whole, at most so many, as a node that shows this.
-fn answer_all(session: &mut Session, most: usize, info: &Info) -> Result<(), Unplayed>
+/// Answers the commands that are whole once this piece came, as a node that shows this.
+fn answer_all(session: &mut Session, piece: &[u8], info: &Info) -> Result<(), Unplayed>
     requires { IsInfo info.now }
 {
-    for _ in 0..most {
+    session.feed(piece)?;
+    for _ in 0..=piece.len() {
         match session.next()? {
             Some(ask) => session.answer(&ask, info)?,
-            None => return Ok(()),
+            None => break,
         }
     }
     Ok(())
@@ -27,23 +29,23 @@ fn answer_all(session: &mut Session, most: usize, info: &Info) -> Result<(), Unp
 pub(crate) fn play(
     alloc: Global,
     call: &str,
-    words: &[Vec<u8>],
+    words: &mut Words<'_>,
     told: &mut Told,
 ) -> Result<(), Unplayed> {
-    let ("talk", [shown, pieces @ ..]) = (call, words) else {
+    if call != "talk" {
         return Err(Unplayed::NoSuchCall);
-    };
-    let Ok(info) = read_info(shown) else {
+    }
+    let Ok(info) = read_info(words.bytes()) else {
         return Err(Unplayed::WrongWords);
     };
     if !can_be_written(&info) {
         return Err(Unplayed::WrongWords);
     }
     let mut session = Session::new(alloc);
-    for piece in pieces {
-        session.feed(piece)?;
-        answer_all(&mut session, piece.len().saturating_add(1), &info)?;
+    for piece in words.rest() {
+        answer_all(&mut session, piece, &info)?;
     }
-    told.bytes(session.unsent())?;
-    told.word(if session.ends() { "closed" } else { "open" })
+    told.bytes(session.unsent());
+    told.word(if session.ends() { "closed" } else { "open" });
+    Ok(())
 }

@@ -4,10 +4,9 @@ ghost use Rattle.std.specs.Prelude.{OnOk, IfOk};
 ghost use Rattle.boxed_nodes.specs.Sendable.{IsTakeable, IsHeldBy};
 
 use crate::bodies::body;
-use crate::events::node;
-use crate::given::number_32;
 use crate::message_rows::tell_message;
 use crate::told::{Told, Unplayed};
+use crate::words::Words;
 use ballot_law::{Event, Input, KeptText, Message, NodeName, Output};
 use boxed_nodes::{ClientNode, DataNode, HowStored, Node};
 use sentinel_conf::{Conf, read};
@@ -16,42 +15,35 @@ use std::alloc::Global;
 
 /// A node with its outbox.
 #[derive(Drop)]
-struct LoneNode<N: Node> {
+pub(crate) struct LoneNode<N: Node> {
     node: N,
     outbox: Outbox,
 }
 
 /// What happens at a node: a message reaches it, the timer of the first master rings, or it becomes another one.
-fn event(alloc: Global, call: &str, words: &[Vec<u8>]) -> Result<Event, Unplayed>
+fn event(alloc: Global, call: &str, words: &mut Words<'_>) -> Result<Event, Unplayed>
     ensures { IfOk result IsTakeable }
 {
-    match (call, words) {
-        ("from", [sender, words @ ..]) | ("take", [sender, words @ ..]) => {
-            Ok(Event::Handed(Message {
-                sender: node(sender)?,
-                target: NodeName::StoreAt(0),
-                body: body(alloc, words)?,
-            }))
-        }
-        ("tick", []) => Ok(Event::Tick {
+    match call {
+        "from" | "take" => Ok(Event::Handed(Message {
+            sender: words.node(),
+            target: NodeName::StoreAt(0),
+            body: body(alloc, words)?,
+        })),
+        "tick" => Ok(Event::Tick {
             master: 0,
             random: 0,
         }),
-        ("become", [priority, offset, link_down]) => Ok(Event::Become {
-            priority: u64::from(number_32(priority)?),
-            offset: u64::from(number_32(offset)?),
-            link_down: u64::from(number_32(link_down)?),
+        "become" => Ok(Event::Become {
+            priority: u64::from(words.number_32()),
+            offset: u64::from(words.number_32()),
+            link_down: u64::from(words.number_32()),
         }),
         _ => Err(Unplayed::NoSuchCall),
     }
 }
 
 impl<N: Node> LoneNode<N> {
-    fn boxed(alloc: Global, node: N) -> Result<Box<LoneNode<N>>, Unplayed> {
-        let outbox = Outbox::new(alloc);
-        Ok(Box::new(alloc, LoneNode { node, outbox })?)
-    }
-
     /// Takes an input; what was held before is lost.
     fn take(&mut self, event: Event) -> Result<(), Unplayed>
         requires { IsTakeable event }
@@ -80,12 +72,12 @@ impl<N: Node> LoneNode<N> {
         }
     }
 
-    /// Tells what comes of a call with these words.
+    /// Tells what comes of a call with these words: of an input what was said.
     fn play(
         &mut self,
         alloc: Global,
         call: &str,
-        words: &[Vec<u8>],
+        words: &mut Words<'_>,
         told: &mut Told,
     ) -> Result<(), Unplayed> {
         match call {
@@ -94,43 +86,28 @@ impl<N: Node> LoneNode<N> {
                 if self.node.start(0).is_err() {
                     return Err(Unplayed::NoMemory);
                 }
-                told.ok()
+                Ok(())
             }
-            "take" => {
-                self.take(event(alloc, call, words)?)?;
-                told.ok()
-            }
-            "from" | "tick" | "become" => {
+            "take" => self.take(event(alloc, call, words)?),
+            _ => {
                 self.give(event(alloc, call, words)?)?;
-                self.tell(alloc, told)
-            }
-            _ => Err(Unplayed::NoSuchCall),
-        }
-    }
-
-    /// Tells what was said.
-    fn tell(&self, alloc: Global, told: &mut Told) -> Result<(), Unplayed> {
-        for output in self.outbox.outputs() {
-            if let Output::Send(message) = output {
-                tell_message(alloc, message, told)?;
+                for output in self.outbox.outputs() {
+                    if let Output::Send(message) = output {
+                        tell_message(alloc, message, told)?;
+                    }
+                }
+                told.nothing();
+                Ok(())
             }
         }
-        told.nothing()
     }
 }
 
 /// A data node or a client.
 #[derive(Drop)]
-enum Kind {
+pub(crate) enum Kind {
     Data(Box<LoneNode<DataNode>>),
     Client(Box<LoneNode<ClientNode>>),
-}
-
-/// A node; none before one was made.
-#[derive(Drop)]
-pub(crate) struct Nodes {
-    alloc: Global,
-    kind: Option<Kind>,
 }
 
 /// What a file says.
@@ -141,55 +118,44 @@ fn conf(alloc: Global, file: &[u8]) -> Result<Box<Conf>, Unplayed> {
     }
 }
 
-impl Nodes {
-    /// None was made.
-    pub(crate) fn new(alloc: Global) -> Nodes {
-        Nodes { alloc, kind: None }
-    }
-
-    /// The node of this name of the group of a file; a client searches for its first master. None where there is no
-    /// such node.
-    fn made(&self, name: NodeName, conf: &Conf) -> Result<Option<Kind>, Unplayed> {
-        match name {
-            NodeName::StoreAt(number) => match DataNode::new(conf, number) {
-                Some(node) => Ok(Some(Kind::Data(LoneNode::boxed(self.alloc, node)?))),
-                None => Ok(None),
-            },
-            NodeName::ClientAt(number) => {
-                if conf.roster().masters().is_empty() {
-                    return Ok(None);
-                }
-                let node = ClientNode::new(self.alloc, conf, number, 0)?;
-                Ok(Some(Kind::Client(LoneNode::boxed(self.alloc, node)?)))
-            }
-            _ => Err(Unplayed::WrongWords),
+/// The node of this name of the group of a file; a client searches for its first master. None where there is no such
+/// node.
+fn made(alloc: Global, name: NodeName, conf: &Conf) -> Result<Option<Kind>, Unplayed> {
+    let outbox = Outbox::new(alloc);
+    match name {
+        NodeName::StoreAt(number) => match DataNode::new(conf, number) {
+            Some(node) => Ok(Some(Kind::Data(Box::new(alloc, LoneNode { node, outbox })?))),
+            None => Ok(None),
+        },
+        NodeName::ClientAt(_) if conf.roster().masters().is_empty() => Ok(None),
+        NodeName::ClientAt(number) => {
+            let node = ClientNode::new(alloc, conf, number, 0)?;
+            Ok(Some(Kind::Client(Box::new(alloc, LoneNode { node, outbox })?)))
         }
+        _ => Err(Unplayed::WrongWords),
     }
+}
 
-    /// Makes the node of this name of the group of a file, if there is one.
-    fn make(&mut self, name: NodeName, file: &[u8], told: &mut Told) -> Result<(), Unplayed> {
-        let conf = conf(self.alloc, file)?;
-        self.kind = self.made(name, &conf)?;
-        match self.kind {
-            Some(_) => told.ok(),
-            None => told.word("None"),
+/// Tells what comes of a call with these words, on the node that was made.
+pub(crate) fn play(
+    node: &mut Option<Kind>,
+    alloc: Global,
+    call: &str,
+    words: &mut Words<'_>,
+    told: &mut Told,
+) -> Result<(), Unplayed> {
+    if call == "node" {
+        let name = words.node();
+        let conf = conf(alloc, words.bytes())?;
+        *node = made(alloc, name, &conf)?;
+        if node.is_none() {
+            told.word("None");
         }
+        return Ok(());
     }
-
-    /// Tells what comes of a call with these words.
-    pub(crate) fn play(
-        &mut self,
-        call: &str,
-        words: &[Vec<u8>],
-        told: &mut Told,
-    ) -> Result<(), Unplayed> {
-        match (call, words) {
-            ("node", [name, file]) => self.make(node(name)?, file, told),
-            _ => match &mut self.kind {
-                Some(Kind::Data(node)) => node.play(self.alloc, call, words, told),
-                Some(Kind::Client(node)) => node.play(self.alloc, call, words, told),
-                None => Err(Unplayed::OutOfRange),
-            },
-        }
+    match node {
+        Some(Kind::Data(node)) => node.play(alloc, call, words, told),
+        Some(Kind::Client(node)) => node.play(alloc, call, words, told),
+        None => Err(Unplayed::OutOfRange),
     }
 }

@@ -1,7 +1,7 @@
 //! What a Sentinel's rules noted, in words.
 
-use crate::told::{Told, Unplayed};
-use sentinel_state::{MasterNotice, MasterThen, Notice, ReplicaNotice, Unfit};
+use crate::told::Told;
+use sentinel_state::{MasterNotice, Notice, ReplicaNotice, Unfit};
 
 /// The word of what happened to a master.
 fn master_word(what: MasterNotice) -> &'static str {
@@ -27,19 +27,7 @@ fn master_word(what: MasterNotice) -> &'static str {
     }
 }
 
-/// The word of why a replica can't be promoted.
-fn unfit_word(why: Unfit) -> &'static str {
-    match why {
-        Unfit::Down => "UnfitDown",
-        Unfit::Lost => "UnfitLost",
-        Unfit::NoPriority => "UnfitNoPriority",
-        Unfit::GivenUp => "UnfitGivenUp",
-        Unfit::Silent => "UnfitSilent",
-        Unfit::LinkDown(_) => "UnfitLinkDown",
-    }
-}
-
-/// The word of what happened to a replica.
+/// The word of what happened to a replica, or of why it can't be promoted.
 fn replica_word(what: ReplicaNotice) -> &'static str {
     match what {
         ReplicaNotice::Down => "ReplicaDown",
@@ -50,69 +38,78 @@ fn replica_word(what: ReplicaNotice) -> &'static str {
         ReplicaNotice::Converted => "Converted",
         ReplicaNotice::Corrected => "Corrected",
         ReplicaNotice::GivenUp => "GivenUp",
-        ReplicaNotice::Unfit(why) => unfit_word(why),
+        ReplicaNotice::Unfit(Unfit::Down) => "UnfitDown",
+        ReplicaNotice::Unfit(Unfit::Lost) => "UnfitLost",
+        ReplicaNotice::Unfit(Unfit::NoPriority) => "UnfitNoPriority",
+        ReplicaNotice::Unfit(Unfit::GivenUp) => "UnfitGivenUp",
+        ReplicaNotice::Unfit(Unfit::Silent) => "UnfitSilent",
+        ReplicaNotice::Unfit(Unfit::LinkDown(_)) => "UnfitLinkDown",
     }
 }
 
-/// Tells a master: its number, and the address that it had.
-fn tell_then(of: MasterThen, told: &mut Told) -> Result<(), Unplayed> {
-    told.number(u64::from(of.master))?;
-    told.address(of.addr)
+/// Tells what happened to a master, and the numbers that go with it.
+fn tell_master(what: MasterNotice, told: &mut Told) {
+    told.word(master_word(what));
+    match what {
+        MasterNotice::PutOff { left, timeout } => {
+            told.number(left);
+            told.number(timeout);
+        }
+        MasterNotice::Short { up, of, need } => {
+            told.number(u64::from(up));
+            told.number(u64::from(of));
+            told.number(u64::from(need));
+        }
+        _ => {}
+    }
 }
 
-/// Tells what happened to a master.
-fn tell_master(of: MasterThen, what: MasterNotice, told: &mut Told) -> Result<(), Unplayed> {
-    told.word(master_word(what))?;
-    if let MasterNotice::PutOff { left, timeout } = what {
-        told.number(left)?;
-        told.number(timeout)?;
-    }
-    if let MasterNotice::Short {
-        up,
-        of: count,
-        need,
-    } = what
-    {
-        told.number(u64::from(up))?;
-        told.number(u64::from(count))?;
-        told.number(u64::from(need))?;
-    }
-    tell_then(of, told)
-}
-
-/// Tells a notice: its word, the place that it names, and the master with its address.
-pub(crate) fn tell_notice(notice: Notice, told: &mut Told) -> Result<(), Unplayed> {
-    match notice {
-        Notice::Tilted(is_tilted) => told.word(if is_tilted { "Tilted" } else { "Untilted" }),
+/// Tells a notice: its word, the place that it names, and the master's number with the address that it had.
+pub(crate) fn tell_notice(notice: Notice, told: &mut Told) {
+    let master = match notice {
+        Notice::Tilted(is_tilted) => {
+            told.word(if is_tilted { "Tilted" } else { "Untilted" });
+            None
+        }
         Notice::NewEpoch(epoch) => {
-            told.word("NewEpoch")?;
-            told.number(epoch)
+            told.word("NewEpoch");
+            told.number(epoch);
+            None
         }
         Notice::Voted { leader, epoch } => {
-            told.word("Voted")?;
-            told.maybe_id(Some(leader))?;
-            told.number(epoch)
+            told.word("Voted");
+            told.maybe_id(Some(leader));
+            told.number(epoch);
+            None
         }
         Notice::Ghost(id) => {
-            told.word("Ghost")?;
-            told.maybe_id(Some(id))
+            told.word("Ghost");
+            told.maybe_id(Some(id));
+            None
         }
-        Notice::OfMaster { of, what } => tell_master(of, what, told),
+        Notice::OfMaster { of, what } => {
+            tell_master(what, told);
+            Some(of)
+        }
         Notice::OfReplica { of, place, what } => {
-            told.word(replica_word(what))?;
-            told.number(u64::from(place))?;
-            tell_then(of, told)
+            told.word(replica_word(what));
+            told.number(u64::from(place));
+            Some(of)
         }
         Notice::OfSentinel { of, place, down } => {
-            told.word(if down { "SentinelDown" } else { "SentinelUp" })?;
-            told.number(u64::from(place))?;
-            tell_then(of, told)
+            told.word(if down { "SentinelDown" } else { "SentinelUp" });
+            told.number(u64::from(place));
+            Some(of)
         }
         Notice::Brought { of, by } => {
-            told.word("Brought")?;
-            told.maybe_id(Some(by.id))?;
-            told.address(by.addr)?;
-            tell_then(of, told)
+            told.word("Brought");
+            told.maybe_id(Some(by.id));
+            told.address(by.addr);
+            Some(of)
         }
+    };
+    if let Some(of) = master {
+        told.number(u64::from(of.master));
+        told.address(of.addr);
     }
 }

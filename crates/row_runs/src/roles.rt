@@ -5,29 +5,14 @@ ghost use Rattle.node_texts.specs.Roles.{IsRole};
 
 use crate::commands::value_of;
 use crate::told::{Told, Unplayed};
+use crate::words::Words;
 use ballot_law::Role;
 use node_texts::{read_role, write_role};
-use resp2::{OutText, Value};
+use resp2::OutText;
 use std::alloc::Global;
 
 /// The greatest replication offset.
 const MOST: u64 = 9_223_372_036_854_775_807;
-
-/// Tells what a value says, or its fault.
-fn tell_said(value: &Value, told: &mut Told) -> Result<(), Unplayed> {
-    match read_role(value) {
-        Ok(Role::Master { offset }) => {
-            told.word("Master")?;
-            told.number(offset)
-        }
-        Ok(Role::Replica { addr, offset }) => {
-            told.word("Replica")?;
-            told.address(addr)?;
-            told.number(offset)
-        }
-        Err(fault) => told.shown(&fault),
-    }
-}
 
 /// Whether the numbers of a role are such that it can be written.
 pub(crate) fn can_be_written(role: &Role) -> bool
@@ -39,31 +24,40 @@ pub(crate) fn can_be_written(role: &Role) -> bool
     }
 }
 
-/// Tells what is written, once more where that lacked memory, of the role that a value says.
-fn tell_written(alloc: Global, value: &Value, told: &mut Told) -> Result<(), Unplayed> {
-    let Ok(role) = read_role(value) else {
-        return Err(Unplayed::WrongWords);
-    };
-    if !can_be_written(&role) {
+/// Tells what is written, once more where that lacked memory, of a role.
+fn tell_written(alloc: Global, role: &Role, told: &mut Told) -> Result<(), Unplayed> {
+    if !can_be_written(role) {
         return Err(Unplayed::WrongWords);
     }
     let mut text = OutText::new(alloc);
-    if write_role(&role, &mut text).is_err() && write_role(&role, &mut text).is_err() {
+    if write_role(role, &mut text).is_err() && write_role(role, &mut text).is_err() {
         return Err(Unplayed::Changed);
     }
-    told.bytes(text.as_slice())
+    told.bytes(text.as_slice());
+    Ok(())
 }
 
-/// Tells what comes of a call with these words.
+/// Tells what comes of a call with these words: what a value says, or its fault, and what is written of it.
 pub(crate) fn play(
     alloc: Global,
     call: &str,
-    words: &[Vec<u8>],
+    words: &mut Words<'_>,
     told: &mut Told,
 ) -> Result<(), Unplayed> {
-    match (call, words) {
-        ("read_role", [bytes]) => tell_said(&value_of(alloc, bytes)?, told),
-        ("write_role", [bytes]) => tell_written(alloc, &value_of(alloc, bytes)?, told),
-        _ => Err(Unplayed::NoSuchCall),
+    match (call, read_role(&value_of(alloc, words.bytes())?)) {
+        ("read_role", Ok(Role::Master { offset })) => {
+            told.word("Master");
+            told.number(offset);
+        }
+        ("read_role", Ok(Role::Replica { addr, offset })) => {
+            told.word("Replica");
+            told.address(addr);
+            told.number(offset);
+        }
+        ("read_role", Err(fault)) => told.shown(&fault),
+        ("write_role", Ok(role)) => tell_written(alloc, &role, told)?,
+        ("write_role", Err(_)) => return Err(Unplayed::WrongWords),
+        _ => return Err(Unplayed::NoSuchCall),
     }
+    Ok(())
 }

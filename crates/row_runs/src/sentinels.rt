@@ -5,17 +5,17 @@ ghost use Rattle.sentinel_outbox.specs.declared.phase.Phase.TheVariants.{Ready};
 ghost use Rattle.ballot_law.specs.Limits.{IsWithinEvent};
 
 use crate::commands::value_of;
+use crate::conf_files::conf_of;
 use crate::counted_files::CountedFile;
 use crate::events::event;
 use crate::frames::tell_value;
-use crate::given::{addr, number, number_16, number_32, says};
-use crate::message_rows::{is_hello, is_routine, tell_output};
+use crate::message_rows::{is_told, tell_output};
 use crate::noticed::tell_notice;
 use crate::told::{Told, Unplayed};
-use ballot_law::{Card, Event, Input, Output};
-use conf_lines::ConfKind;
+use crate::words::Words;
+use ballot_law::{Card, Event, Input};
 use resp2::{OutText, push_bulk, push_size};
-use sentinel_conf::{ConfStore, read};
+use sentinel_conf::ConfStore;
 use sentinel_core::{Sentinel, ServeFault, Served};
 use sentinel_outbox::{Outbox, ReleaseFault, StoreFault, TakeFault, Took};
 use sentinel_rules::Profile;
@@ -42,44 +42,36 @@ pub(crate) struct Lone {
     ghost ready: { is_ready ≡ true → sentinel.value.phase ≡ Ready },
 }
 
-/// By which rules a Sentinel works, and for how many milliseconds its first master may load its data after a restart; 0
-/// is for ever.
-#[derive(Clone, Copy)]
-struct Rules {
+/// A Sentinel of this profile that opens with this file, at this reading of its clock. Its first master may load its
+/// data for so many milliseconds after a restart; 0 is for ever.
+fn opened(
+    alloc: Global,
+    file: &[u8],
     profile: Profile,
     reboot_ms: u64,
-}
-
-/// Those of this profile, by which a master may load its data for ever.
-fn rules_of(profile: Profile) -> Rules {
-    Rules {
-        profile,
-        reboot_ms: 0,
-    }
-}
-
-/// A Sentinel of these rules that opens with this file, at this reading of its clock.
-fn opened(alloc: Global, file: &[u8], rules: Rules, now: u64) -> Result<Box<Sentinel>, Unplayed>
+    now: u64,
+) -> Result<Box<Sentinel>, Unplayed>
     ensures { IfOk result (λ sentinel. sentinel.value.phase ≡ Ready) }
 {
-    let conf = match read(alloc, file) {
-        Ok(conf) => conf,
-        Err(fault) if fault.kind == ConfKind::NoMemory => return Err(Unplayed::NoMemory),
-        Err(_) => return Err(Unplayed::WrongWords),
-    };
-    let mut reboots = Vec::new(alloc);
-    reboots.push(rules.reboot_ms)?;
-    let Ok(sentinel) = Sentinel::open_with(alloc, conf, rules.profile, reboots, now) else {
+    let conf = Box::into_inner(conf_of(alloc, file)?);
+    let reboots = vec![in alloc; reboot_ms]?;
+    let Ok(sentinel) = Sentinel::open_with(alloc, conf, profile, reboots, now) else {
         return Err(Unplayed::NoMemory);
     };
     Ok(Box::new(alloc, sentinel)?)
 }
 
 impl Lone {
-    /// Opens it with this file, at this reading of its clock, with an outbox without room.
-    fn open(alloc: Global, file: &[u8], rules: Rules, now: u64) -> Result<Lone, Unplayed> {
+    /// Opens one of this profile with this file, at this reading of its clock, with an outbox without room.
+    fn open(
+        alloc: Global,
+        file: &[u8],
+        profile: Profile,
+        reboot_ms: u64,
+        now: u64,
+    ) -> Result<Lone, Unplayed> {
         let store = CountedFile::holding(alloc, file)?;
-        let sentinel = opened(alloc, file, rules, now)?;
+        let sentinel = opened(alloc, file, profile, reboot_ms, now)?;
         let card = sentinel.address_now(0);
         Ok(Lone {
             alloc,
@@ -92,22 +84,21 @@ impl Lone {
         })
     }
 
-    /// Opens a strict one in a box.
-    pub(crate) fn boxed(alloc: Global, file: &[u8], now: u64) -> Result<Box<Lone>, Unplayed> {
-        Lone::boxed_as(alloc, file, rules_of(Profile::Strict), now)
-    }
-
-    /// Opens one of these rules in a box.
-    fn boxed_as(alloc: Global, file: &[u8], rules: Rules, now: u64) -> Result<Box<Lone>, Unplayed> {
-        let lone = Lone::open(alloc, file, rules, now)?;
+    /// Opens one in a box.
+    fn boxed(
+        alloc: Global,
+        file: &[u8],
+        profile: Profile,
+        reboot_ms: u64,
+        now: u64,
+    ) -> Result<Box<Lone>, Unplayed> {
+        let lone = Lone::open(alloc, file, profile, reboot_ms, now)?;
         Ok(Box::new(alloc, lone)?)
     }
 
-    /// Opens one of these rules in a box, with room for the outputs of an input.
-    fn ready(alloc: Global, file: &[u8], rules: Rules, now: u64) -> Result<Box<Lone>, Unplayed> {
-        let mut lone = Lone::boxed_as(alloc, file, rules, now)?;
-        lone.make_room()?;
-        Ok(lone)
+    /// Opens a strict one in a box, at clock 0.
+    pub(crate) fn strict(alloc: Global, file: &[u8]) -> Result<Box<Lone>, Unplayed> {
+        Lone::boxed(alloc, file, Profile::Strict, 0, 0)
     }
 
     /// Makes room in its outbox for the outputs of any one input.
@@ -143,11 +134,8 @@ impl Lone {
         self.is_ready = false;
         self.sentinel.stop();
         let plan = self.sentinel.plan();
-        let rules = Rules {
-            profile: plan.profile(),
-            reboot_ms: plan.reboot_ms(0),
-        };
-        self.sentinel = opened(self.alloc, self.file.text(), rules, now)?;
+        let (profile, reboot_ms) = (plan.profile(), plan.reboot_ms(0));
+        self.sentinel = opened(self.alloc, self.file.store.text(), profile, reboot_ms, now)?;
         self.is_ready = true;
         self.outbox.drop_held();
         self.card = self.sentinel.address_now(0);
@@ -179,23 +167,17 @@ impl Lone {
     ) -> Result<Vec<u8>, Unplayed> {
         let mut written = Vec::with_capacity(self.alloc, ROOM)?;
         match self.serve(now, &mut Cursor::new(bytes), &mut written)? {
-            Ok(served) => told.number(served.answers)?,
+            Ok(served) => told.number(served.answers),
             Err(ServeFault::NoMemory) => {
                 self.part = written;
                 return Err(Unplayed::NoMemory);
             }
-            Err(fault) => told.shown(&fault)?,
+            Err(fault) => told.shown(&fault),
         }
         if !written.starts_with(&self.part) {
             return Err(Unplayed::Changed);
         }
         Ok(written)
-    }
-
-    /// Tells what these bytes get.
-    fn tell_served(&mut self, now: u64, bytes: &[u8], told: &mut Told) -> Result<(), Unplayed> {
-        let written = self.serve_bytes(now, bytes, told)?;
-        told.bytes(&written)
     }
 
     /// Tells the answer to the command of these words, in a stream of its own.
@@ -211,235 +193,188 @@ impl Lone {
             push_bulk(&mut text, word)?;
         }
         let written = self.serve_bytes(now, text.as_slice(), told)?;
-        tell_value(&value_of(self.alloc, &written)?, told)
-    }
-
-    /// Tells the election and the new configuration of the first master that the last input brought.
-    fn tell_changes(&mut self, told: &mut Told) -> Result<(), Unplayed> {
-        if let Some((master, epoch)) = self.sentinel.won() {
-            told.word("elected")?;
-            told.number(u64::from(master))?;
-            told.number(epoch)?;
-        }
-        let card = self.sentinel.address_now(0);
-        if card != self.card {
-            told.word("stored")?;
-            tell_card(card, told)?;
-            self.card = card;
-        }
+        tell_value(&value_of(self.alloc, &written)?, told);
         Ok(())
     }
 
-    /// Takes an input, stores and releases; tells what is sent and told, but PING, INFO and hellos unless all is
-    /// wanted, and what changed.
+    /// Tells the election and the new configuration of the first master that the last input brought.
+    fn tell_changes(&mut self, told: &mut Told) {
+        if let Some((master, epoch)) = self.sentinel.won() {
+            told.word("elected");
+            told.number(u64::from(master));
+            told.number(epoch);
+        }
+        let card = self.sentinel.address_now(0);
+        if card != self.card {
+            told.word("stored");
+            told.maybe_card(card);
+            self.card = card;
+        }
+        told.nothing();
+    }
+
+    /// Takes an input, stores and releases; tells what of it the call tells, and what changed.
     fn give(
         &mut self,
-        now: u64,
-        words: &[Vec<u8>],
-        all: bool,
+        call: &str,
+        words: &mut Words<'_>,
         told: &mut Told,
     ) -> Result<(), Unplayed> {
+        let now = words.number();
         let event = event(self.alloc, words)?;
         self.outbox.clear();
         self.outbox.drop_held();
         if let Err(fault) = self.take(now, event) {
-            return told.shown(&fault);
+            told.shown(&fault);
+        } else if let Err(fault) = self.store() {
+            told.shown(&fault);
+        } else if let Err(fault) = self.release() {
+            told.shown(&fault);
+        } else {
+            self.tell_outputs(call, told)?;
+            self.tell_changes(told);
         }
-        if let Err(fault) = self.store() {
-            return told.shown(&fault);
-        }
-        if let Err(fault) = self.release() {
-            return told.shown(&fault);
-        }
-        self.tell_outputs(all, told)?;
-        self.tell_changes(told)?;
-        told.nothing()
+        Ok(())
     }
 
-    /// Tells what is shown.
-    fn tell_outputs(&self, all: bool, told: &mut Told) -> Result<(), Unplayed> {
+    /// Tells what is shown, as a call tells it.
+    fn tell_outputs(&self, call: &str, told: &mut Told) -> Result<(), Unplayed> {
         for output in self.outbox.outputs() {
-            if all || !is_routine(output) {
+            if is_told(call, output) {
                 tell_output(self.alloc, self.sentinel.roster(), output, told)?;
             }
         }
         Ok(())
     }
 
-    /// Tells the hellos that are shown.
-    fn tell_hellos(&self, told: &mut Told) -> Result<(), Unplayed> {
-        for output in self.outbox.outputs() {
-            if is_hello(output) {
-                tell_output(self.alloc, self.sentinel.roster(), output, told)?;
+    /// Tells the answer to a question about it.
+    fn tell(&self, call: &str, words: &mut Words<'_>, told: &mut Told) -> Result<(), Unplayed> {
+        match call {
+            "shown" => told.number(self.outbox.outputs().len() as u64),
+            "hellos" => {
+                self.tell_outputs(call, told)?;
+                told.nothing();
             }
-        }
-        told.nothing()
-    }
-
-    /// Tells what its rules noted that wasn't told yet.
-    fn tell_notices(&self, told: &mut Told) -> Result<(), Unplayed> {
-        for _ in 0..NOTICES_MAX {
-            let Some(notice) = self.sentinel.take_notice() else {
-                return told.nothing();
-            };
-            tell_notice(notice, told)?;
+            "notices" => {
+                for _ in 0..NOTICES_MAX {
+                    let Some(notice) = self.sentinel.take_notice() else {
+                        break;
+                    };
+                    tell_notice(notice, told);
+                }
+                told.nothing();
+            }
+            "text" => told.bytes(self.file.store.text()),
+            "kept" => {
+                let conf = conf_of(self.alloc, self.file.store.text())?;
+                told.number(conf.kept().current);
+                for master in conf.kept().masters.as_slice() {
+                    told.number(master.voted);
+                }
+            }
+            "writes" => told.number(self.file.writes),
+            "failures" => told.number(self.file.failures()),
+            "card" => told.maybe_card(self.sentinel.address_now(words.number_16())),
+            "won" => told.maybe_number(self.sentinel.won().map(|won| won.1)),
+            "place" => told.number(u64::from(self.sentinel.place())),
+            "master_at" => {
+                let master = self.sentinel.roster().master_at(words.addr());
+                told.maybe_number(master.map(u64::from));
+            }
+            "is_stopped" => told.yes(self.sentinel.is_stopped()),
+            _ => return Err(Unplayed::NoSuchCall),
         }
         Ok(())
     }
 
-    /// Tells what comes of a call in the order of an input.
-    fn play_turn(
+    /// Tells what comes of a part of an input.
+    fn play_part(
         &mut self,
         call: &str,
-        words: &[Vec<u8>],
+        words: &mut Words<'_>,
         told: &mut Told,
     ) -> Result<(), Unplayed> {
-        match (call, words) {
-            ("take", [now, words @ ..]) => {
+        match call {
+            "take" => {
+                let now = words.number();
                 let event = event(self.alloc, words)?;
                 self.outbox.clear();
-                match self.take(number(now)?, event) {
+                match self.take(now, event) {
                     Ok(Took { changed: true }) => told.word("changed"),
                     Ok(Took { changed: false }) => told.word("unchanged"),
                     Err(fault) => told.shown(&fault),
                 }
             }
-            ("store", []) => match self.store() {
-                Ok(()) => told.ok(),
-                Err(fault) => told.shown(&fault),
-            },
-            ("release", []) => match self.release() {
-                Ok(()) => told.ok(),
-                Err(fault) => told.shown(&fault),
-            },
-            ("stop", []) => {
-                self.is_ready = false;
-                self.sentinel.stop();
-                told.ok()
+            "store" => {
+                if let Err(fault) = self.store() {
+                    told.shown(&fault);
+                }
             }
-            ("start", [now]) => {
-                self.start_again(number(now)?)?;
-                told.ok()
+            "release" => {
+                if let Err(fault) = self.release() {
+                    told.shown(&fault);
+                }
             }
-            _ => self.play_question(call, words, told),
+            _ => return self.tell(call, words, told),
         }
-    }
-
-    /// Tells the answer to a question about it.
-    fn play_question(
-        &self,
-        call: &str,
-        words: &[Vec<u8>],
-        told: &mut Told,
-    ) -> Result<(), Unplayed> {
-        match (call, words) {
-            ("shown", []) => told.number(self.outbox.outputs().len() as u64),
-            ("hellos", []) => self.tell_hellos(told),
-            ("notices", []) => self.tell_notices(told),
-            ("text", []) => told.bytes(self.file.text()),
-            ("kept", []) => tell_kept(self.alloc, self.file.text(), told),
-            ("writes", []) => told.number(self.file.writes()),
-            ("failures", []) => told.number(self.file.failures()),
-            ("card", [master]) => tell_card(self.sentinel.address_now(number_16(master)?), told),
-            ("won", []) => told.maybe_number(self.sentinel.won().map(|won| won.1)),
-            ("place", []) => told.number(u64::from(self.sentinel.place())),
-            ("master_at", [at]) => {
-                let master = self.sentinel.roster().master_at(addr(at)?);
-                told.maybe_number(master.map(u64::from))
-            }
-            ("is_stopped", []) => told.yes(self.sentinel.is_stopped()),
-            _ => Err(Unplayed::NoSuchCall),
-        }
+        Ok(())
     }
 
     /// Tells what comes of a call with these words.
-    fn play(&mut self, call: &str, words: &[Vec<u8>], told: &mut Told) -> Result<(), Unplayed> {
-        match (call, words) {
-            ("at", [now, words @ ..]) => self.give(number(now)?, words, false, told),
-            ("all", [now, words @ ..]) => self.give(number(now)?, words, true, told),
-            ("serve", [now, bytes]) => self.tell_served(number(now)?, bytes, told),
-            ("ask", [now, words @ ..]) => self.tell_answer(number(now)?, words, told),
-            ("refuse_after", [passes, left]) => {
-                let is_new = says(left, "new", "old")?;
-                self.file.refuse_after(number_32(passes)?, is_new);
-                told.ok()
-            }
-            ("lose_room", []) => {
-                self.outbox = Outbox::new(self.alloc);
-                told.ok()
-            }
-            _ => self.play_turn(call, words, told),
-        }
-    }
-}
-
-/// Tells a configuration: its epoch and its address.
-fn tell_card(card: Option<Card>, told: &mut Told) -> Result<(), Unplayed> {
-    match card {
-        Some(card) => {
-            told.number(card.epoch)?;
-            told.address(card.addr)
-        }
-        None => told.word("None"),
-    }
-}
-
-/// Tells the current epoch that a file holds, and the epoch of the last vote for each master.
-fn tell_kept(alloc: Global, file: &[u8], told: &mut Told) -> Result<(), Unplayed> {
-    let Ok(conf) = read(alloc, file) else {
-        return Err(Unplayed::NoMemory);
-    };
-    let conf = Box::new(alloc, conf)?;
-    told.number(conf.kept().current)?;
-    for master in conf.kept().masters.as_slice() {
-        told.number(master.voted)?;
-    }
-    Ok(())
-}
-
-/// A Sentinel; none before one was opened.
-#[derive(Drop)]
-pub(crate) struct Sentinels {
-    alloc: Global,
-    lone: Option<Box<Lone>>,
-}
-
-impl Sentinels {
-    /// None was opened.
-    pub(crate) fn new(alloc: Global) -> Sentinels {
-        Sentinels { alloc, lone: None }
-    }
-
-    /// Tells what comes of a call with these words.
-    pub(crate) fn play(
+    fn play(
         &mut self,
         call: &str,
-        words: &[Vec<u8>],
+        words: &mut Words<'_>,
         told: &mut Told,
     ) -> Result<(), Unplayed> {
-        match (call, words) {
-            ("open", [file, now]) => {
-                let rules = rules_of(Profile::Strict);
-                self.lone = Some(Lone::ready(self.alloc, file, rules, number(now)?)?);
-                told.ok()
+        match call {
+            "at" | "all" => self.give(call, words, told)?,
+            "serve" => {
+                let (now, bytes) = (words.number(), words.bytes());
+                let written = self.serve_bytes(now, bytes, told)?;
+                told.bytes(&written);
             }
-            ("open-as-redis", [file, now]) => {
-                let rules = rules_of(Profile::Redis);
-                self.lone = Some(Lone::ready(self.alloc, file, rules, number(now)?)?);
-                told.ok()
+            "ask" => self.tell_answer(words.number(), words.rest(), told)?,
+            "refuse_after" => {
+                let (passes, is_new) = (words.number_32(), words.says("new", "old"));
+                self.file.store.refuse_after(passes, is_new);
             }
-            ("open-with-reboot", [file, now, ms]) => {
-                let rules = Rules {
-                    profile: Profile::Redis,
-                    reboot_ms: number(ms)?,
-                };
-                self.lone = Some(Lone::ready(self.alloc, file, rules, number(now)?)?);
-                told.ok()
+            "lose_room" => self.outbox = Outbox::new(self.alloc),
+            "stop" => {
+                self.is_ready = false;
+                self.sentinel.stop();
             }
-            _ => {
-                let lone = self.lone.as_mut().ok_or(Unplayed::OutOfRange)?;
-                lone.play(call, words, told)
-            }
+            "start" => self.start_again(words.number())?,
+            _ => self.play_part(call, words, told)?,
         }
+        Ok(())
     }
+}
+
+/// Tells what comes of a call with these words, on the Sentinel that was opened.
+pub(crate) fn play(
+    lone: &mut Option<Box<Lone>>,
+    alloc: Global,
+    call: &str,
+    words: &mut Words<'_>,
+    told: &mut Told,
+) -> Result<(), Unplayed> {
+    let profile = match call {
+        "open" => Profile::Strict,
+        "open-as-redis" | "open-with-reboot" => Profile::Redis,
+        _ => {
+            let lone = lone.as_mut().ok_or(Unplayed::OutOfRange)?;
+            return lone.play(call, words, told);
+        }
+    };
+    let (file, now) = (words.bytes(), words.number());
+    let reboot_ms = if call == "open-with-reboot" {
+        words.number()
+    } else {
+        0
+    };
+    let mut opened = Lone::boxed(alloc, file, profile, reboot_ms, now)?;
+    opened.make_room()?;
+    *lone = Some(opened);
+    Ok(())
 }

@@ -1,7 +1,7 @@
 //! What comes of a row, in words.
 
 use crate::spelling::add_spelling;
-use ballot_law::{Addr, NoMemory, RunId};
+use ballot_law::{Addr, Card, NoMemory, RunId};
 use std::alloc::{AllocError, AllocFailed, Global};
 use std::fmt::Display;
 use tokens::{ip_text, run_id_text};
@@ -25,8 +25,6 @@ pub(crate) enum Unplayed {
     WrongWords,
     /// Nothing was made that the call acts on, or a number is beyond what it allows.
     OutOfRange,
-    /// The call told nothing.
-    NothingTold,
     /// A call that was refused memory left something else than it found: the same call was refused once more.
     Changed,
 }
@@ -43,7 +41,6 @@ impl Unplayed {
             Unplayed::NoSuchFile => "NoSuchFile",
             Unplayed::WrongWords => "WrongWords",
             Unplayed::OutOfRange => "OutOfRange",
-            Unplayed::NothingTold => "NothingTold",
             Unplayed::Changed => "Changed",
         }
     }
@@ -70,10 +67,11 @@ impl From<NoMemory> for Unplayed {
 /// How many bytes of what comes have room before a call is made, so that only the call itself can lack memory.
 const ROOM: usize = 65_536;
 
-/// Words that tell what comes, with a blank between two.
+/// Words that tell what comes, with a blank between two. It notes where a word lacked memory, which isn't told then.
 #[derive(Drop)]
 pub(crate) struct Told {
     text: String,
+    is_cut: bool,
 }
 
 impl Told {
@@ -81,6 +79,7 @@ impl Told {
     pub(crate) fn new(alloc: Global) -> Told {
         Told {
             text: String::new(alloc),
+            is_cut: false,
         }
     }
 
@@ -88,6 +87,7 @@ impl Told {
     pub(crate) fn with_room(alloc: Global) -> Result<Told, Unplayed> {
         Ok(Told {
             text: String::with_capacity(alloc, ROOM)?,
+            is_cut: false,
         })
     }
 
@@ -96,75 +96,79 @@ impl Told {
         self.text.as_str()
     }
 
-    /// Begins a word.
-    fn begin(&mut self) -> Result<(), Unplayed> {
-        if !self.text.is_empty() {
-            self.text.push(' ')?;
-        }
-        Ok(())
-    }
-
-    /// Adds a word, which has no blanks.
-    pub(crate) fn word(&mut self, word: &str) -> Result<(), Unplayed> {
-        self.begin()?;
-        self.text.push_str(word)?;
-        Ok(())
-    }
-
-    /// Adds that a call that gives nothing was made.
-    pub(crate) fn ok(&mut self) -> Result<(), Unplayed> {
-        self.word("ok")
-    }
-
-    /// Adds `nothing` where no word was added.
-    pub(crate) fn nothing(&mut self) -> Result<(), Unplayed> {
+    /// Ends the words: a call that told nothing is told as `ok`. Refused where a word lacked memory.
+    pub(crate) fn end(&mut self) -> Result<(), Unplayed> {
         if self.text.is_empty() {
-            return self.word("nothing");
+            self.word("ok");
         }
-        Ok(())
-    }
-
-    /// Adds bytes as a word, as a row spells them.
-    pub(crate) fn bytes(&mut self, bytes: &[u8]) -> Result<(), Unplayed> {
-        self.begin()?;
-        add_spelling(&mut self.text, bytes)
-    }
-
-    /// Adds bytes as a word after a mark.
-    pub(crate) fn marked(&mut self, mark: char, bytes: &[u8]) -> Result<(), Unplayed> {
-        self.begin()?;
-        self.text.push(mark)?;
-        add_spelling(&mut self.text, bytes)
-    }
-
-    /// Adds a number as a word after a mark.
-    pub(crate) fn signed(&mut self, mark: char, number: i64) -> Result<(), Unplayed> {
-        self.begin()?;
-        write!(self.text, "{mark}{number}")?;
+        if self.is_cut {
+            return Err(Unplayed::NoMemory);
+        }
         Ok(())
     }
 
     /// Adds what is shown so as a word.
-    pub(crate) fn shown<T: Display>(&mut self, value: &T) -> Result<(), Unplayed> {
-        self.begin()?;
-        write!(self.text, "{value}")?;
-        Ok(())
+    pub(crate) fn shown<T: Display>(&mut self, value: &T) {
+        self.word("");
+        if write!(self.text, "{value}").is_err() {
+            self.is_cut = true;
+        }
+    }
+
+    /// Adds a word, which has no blanks.
+    pub(crate) fn word(&mut self, word: &str) {
+        let blank = if self.text.is_empty() { "" } else { " " };
+        if self.text.push_str(blank).is_err() || self.text.push_str(word).is_err() {
+            self.is_cut = true;
+        }
+    }
+
+    /// Adds the words that came of one of several ways to the same, where they are the first. Whether no others came
+    /// before.
+    pub(crate) fn is_same(&mut self, other: &Told) -> bool {
+        self.is_cut |= other.is_cut;
+        let is_same = self.text.is_empty() || self.text.as_str() == other.as_str();
+        if self.text.is_empty() || !is_same {
+            self.word(other.as_str());
+        }
+        is_same
+    }
+
+    /// Adds `nothing` where no word was added.
+    pub(crate) fn nothing(&mut self) {
+        if self.text.is_empty() {
+            self.word("nothing");
+        }
+    }
+
+    /// Adds bytes as a word after a mark, as a row spells them.
+    pub(crate) fn marked(&mut self, mark: &str, bytes: &[u8]) {
+        self.word(mark);
+        if add_spelling(&mut self.text, bytes).is_err() {
+            self.is_cut = true;
+        }
+    }
+
+    /// Adds bytes as a word, as a row spells them.
+    pub(crate) fn bytes(&mut self, bytes: &[u8]) {
+        self.marked("", bytes);
+    }
+
+    /// Adds a number as a word after a mark, and a text behind it.
+    pub(crate) fn numbered(&mut self, mark: &str, number: i64, end: &str) {
+        self.word(mark);
+        if write!(self.text, "{number}{end}").is_err() {
+            self.is_cut = true;
+        }
     }
 
     /// Adds a number as a word.
-    pub(crate) fn number(&mut self, number: u64) -> Result<(), Unplayed> {
-        self.shown(&number)
-    }
-
-    /// Adds a name and a number in brackets as a word.
-    pub(crate) fn numbered(&mut self, name: &str, number: u64) -> Result<(), Unplayed> {
-        self.begin()?;
-        write!(self.text, "{name}({number})")?;
-        Ok(())
+    pub(crate) fn number(&mut self, number: u64) {
+        self.shown(&number);
     }
 
     /// Adds a number as a word, or `None`.
-    pub(crate) fn maybe_number(&mut self, number: Option<u64>) -> Result<(), Unplayed> {
+    pub(crate) fn maybe_number(&mut self, number: Option<u64>) {
         match number {
             Some(number) => self.number(number),
             None => self.word("None"),
@@ -172,34 +176,47 @@ impl Told {
     }
 
     /// Adds a number as a word, in hexadecimal.
-    pub(crate) fn hexadecimal(&mut self, number: u128) -> Result<(), Unplayed> {
-        self.begin()?;
-        write!(self.text, "{number:x}")?;
-        Ok(())
+    pub(crate) fn hexadecimal(&mut self, number: u128) {
+        self.word("");
+        if write!(self.text, "{number:x}").is_err() {
+            self.is_cut = true;
+        }
     }
 
     /// Adds `true` or `false`.
-    pub(crate) fn yes(&mut self, is_so: bool) -> Result<(), Unplayed> {
-        self.word(if is_so { "true" } else { "false" })
+    pub(crate) fn yes(&mut self, is_so: bool) {
+        self.word(if is_so { "true" } else { "false" });
     }
 
     /// Adds an address as a word.
-    pub(crate) fn address(&mut self, addr: Addr) -> Result<(), Unplayed> {
-        self.bytes(ip_text(addr.ip).as_slice())?;
-        write!(self.text, ":{}", addr.port)?;
-        Ok(())
+    pub(crate) fn address(&mut self, addr: Addr) {
+        self.bytes(ip_text(addr.ip).as_slice());
+        if write!(self.text, ":{}", addr.port).is_err() {
+            self.is_cut = true;
+        }
     }
 
     /// Adds an address as a word, or `None`.
-    pub(crate) fn maybe_address(&mut self, addr: Option<Addr>) -> Result<(), Unplayed> {
+    pub(crate) fn maybe_address(&mut self, addr: Option<Addr>) {
         match addr {
             Some(addr) => self.address(addr),
             None => self.word("None"),
         }
     }
 
+    /// Adds the epoch and the address of a configuration as words, or `None`.
+    pub(crate) fn maybe_card(&mut self, card: Option<Card>) {
+        match card {
+            Some(card) => {
+                self.number(card.epoch);
+                self.address(card.addr);
+            }
+            None => self.word("None"),
+        }
+    }
+
     /// Adds a run id as a word, or `None`.
-    pub(crate) fn maybe_id(&mut self, id: Option<RunId>) -> Result<(), Unplayed> {
+    pub(crate) fn maybe_id(&mut self, id: Option<RunId>) {
         match id {
             Some(id) => self.bytes(run_id_text(id).as_slice()),
             None => self.word("None"),

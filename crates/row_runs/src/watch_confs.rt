@@ -1,45 +1,30 @@
 //! Files as `watch` reads them alone, and as redis-sentinel can read them.
 
 use crate::conf_files::conf_of;
-use crate::given::joined;
 use crate::told::{Told, Unplayed};
-use sentinel_conf::{Bind, Conf, WatchConf, WatchKind, read_watch, redis_text};
+use crate::words::Words;
+use sentinel_conf::{Conf, WatchConf, WatchKind, read_watch, redis_text};
 use std::alloc::Global;
 use tokens::ip_text;
 
-/// Tells the ips at which a port listens, after a `-` those that the machine may lack.
-fn tell_binds(binds: &[Bind], told: &mut Told) -> Result<(), Unplayed> {
-    for bind in binds {
-        let ip = ip_text(u32::from_be_bytes(bind.ip));
-        if bind.may_lack {
-            told.marked('-', ip.as_slice())?;
-        } else {
-            told.bytes(ip.as_slice())?;
-        }
+/// Tells what a file says to `watch`: the ips, after a `-` those that the machine may lack, the own password, the user
+/// and the password for other Sentinels, how many clients, after how many seconds one is closed, whether the protected
+/// mode is on, and the user and the password for the data nodes of each master.
+fn tell_settings(conf: &Conf, read: &WatchConf, told: &mut Told) {
+    for bind in read.binds() {
+        let mark = if bind.may_lack { "-" } else { "" };
+        told.marked(mark, ip_text(u32::from_be_bytes(bind.ip)).as_slice());
     }
-    Ok(())
-}
-
-/// Tells the user and the password for the data nodes of each master.
-fn tell_logins(conf: &Conf, read: &WatchConf, told: &mut Told) -> Result<(), Unplayed> {
+    told.bytes(read.own_pass());
+    told.bytes(read.sent_user());
+    told.bytes(read.sent_pass());
+    told.number(u64::from(read.max_clients()));
+    told.number(u64::from(read.idle_seconds()));
+    told.yes(read.protected_mode());
     for master in conf.roster().masters() {
-        told.bytes(read.node_user(&master.name))?;
-        told.bytes(read.node_pass(&master.name))?;
+        told.bytes(read.node_user(&master.name));
+        told.bytes(read.node_pass(&master.name));
     }
-    Ok(())
-}
-
-/// Tells what a file says to `watch`: the ips, the own password, the user and the password for other Sentinels, how
-/// many clients, after how many seconds one is closed, whether the protected mode is on, and the logins of the masters.
-fn tell_settings(conf: &Conf, read: &WatchConf, told: &mut Told) -> Result<(), Unplayed> {
-    tell_binds(read.binds(), told)?;
-    told.bytes(read.own_pass())?;
-    told.bytes(read.sent_user())?;
-    told.bytes(read.sent_pass())?;
-    told.number(u64::from(read.max_clients()))?;
-    told.number(u64::from(read.idle_seconds()))?;
-    told.yes(read.protected_mode())?;
-    tell_logins(conf, read, told)
 }
 
 /// Tells what a file says to `watch`, or its first fault with its words and the line of it.
@@ -47,25 +32,27 @@ fn tell_read(alloc: Global, text: &[u8], told: &mut Told) -> Result<(), Unplayed
     let conf = conf_of(alloc, text)?;
     match read_watch(alloc, &conf, text) {
         Ok(read) => tell_settings(&conf, &read, told),
-        Err(fault) if fault.kind == WatchKind::NoMemory => Err(Unplayed::NoMemory),
+        Err(fault) if fault.kind == WatchKind::NoMemory => return Err(Unplayed::NoMemory),
         Err(fault) => {
-            told.number(fault.line)?;
-            told.shown(&fault)
+            told.number(fault.line);
+            told.shown(&fault);
         }
     }
+    Ok(())
 }
 
 /// Tells what comes of a call with these words.
 pub(crate) fn play(
     alloc: Global,
     call: &str,
-    words: &[Vec<u8>],
+    words: &mut Words<'_>,
     told: &mut Told,
 ) -> Result<(), Unplayed> {
-    let text = joined(alloc, words)?;
+    let text = words.joined(alloc)?;
     match call {
-        "read_watch" => tell_read(alloc, &text, told),
+        "read_watch" => tell_read(alloc, &text, told)?,
         "redis_text" => told.bytes(redis_text(alloc, &text)?.as_slice()),
-        _ => Err(Unplayed::NoSuchCall),
+        _ => return Err(Unplayed::NoSuchCall),
     }
+    Ok(())
 }
