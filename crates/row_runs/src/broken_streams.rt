@@ -134,11 +134,7 @@ fn fault(words: &mut Words<'_>) -> Result<Option<ErrorKind>, Unplayed> {
 
 impl BrokenStreams {
     /// No stream, with the file of each Sentinel.
-    fn boxed(
-        alloc: Global,
-        conf: &[u8],
-        is_twice: bool,
-    ) -> Result<Box<BrokenStreams>, Unplayed> {
+    fn boxed(alloc: Global, conf: &[u8], is_twice: bool) -> Result<Box<BrokenStreams>, Unplayed> {
         let streams = BrokenStreams {
             alloc,
             conf: Vec::from_slice(alloc, conf)?,
@@ -264,12 +260,7 @@ impl BrokenStreams {
 
     /// Serves the stream in each way of a call, after each number of bytes. Tells how many these were, or the first that
     /// isn't served so.
-    fn try_each(
-        &self,
-        call: &str,
-        words: &mut Words<'_>,
-        told: &mut Told,
-    ) -> Result<(), Unplayed> {
+    fn try_each(&self, call: &str, words: &mut Words<'_>, told: &mut Told) -> Result<(), Unplayed> {
         let (asks, answers, all) = (self.asks.len(), self.answers.len(), usize::MAX);
         let (sizes, step, end, fault) = match call {
             "each_cut" => ((all, all), 1, asks, None),

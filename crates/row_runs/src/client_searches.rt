@@ -29,11 +29,7 @@ fn tell_move(quest: &Quest, told: &mut Told) -> Result<(), Unplayed> {
 }
 
 /// A search over these Sentinels, whose first move is told, or the fault of the list.
-fn begun(
-    alloc: Global,
-    list: &[Addr],
-    told: &mut Told,
-) -> Result<Option<Box<Quest>>, Unplayed> {
+fn begun(alloc: Global, list: &[Addr], told: &mut Told) -> Result<Option<Box<Quest>>, Unplayed> {
     match Quest::new(alloc, list) {
         Ok(quest) => {
             tell_move(&quest, told)?;

@@ -139,12 +139,16 @@ impl Talk {
     /// The first client sends a piece, at clock 0, and is answered as a port does it: so many values that may store,
     /// and as many again while the next one waits.
     fn say<R: Wait>(&mut self, rt: &R, piece: &[u8], most: u64) -> Result<Reach, ServeFault> {
-        let mut reach = self.first.go_on(rt, &self.cell, &mut self.seat, 0, piece, most)?;
+        let mut reach = self
+            .first
+            .go_on(rt, &self.cell, &mut self.seat, 0, piece, most)?;
         for _ in 0..u64::MAX {
             if reach != Reach::Waits {
                 break;
             }
-            reach = self.first.go_on(rt, &self.cell, &mut self.seat, 0, b"", most)?;
+            reach = self
+                .first
+                .go_on(rt, &self.cell, &mut self.seat, 0, b"", most)?;
         }
         Ok(reach)
     }

@@ -276,7 +276,11 @@ pub(crate) fn play(
     told: &mut Told,
 ) -> Result<(), Unplayed> {
     match call {
-        "ask" | "ask_listening" | "ask_locked" | "ask_admitted" | "ask_beside_a_sentinel"
+        "ask"
+        | "ask_listening"
+        | "ask_locked"
+        | "ask_admitted"
+        | "ask_beside_a_sentinel"
         | "ask_as" => {
             let name = if call == "ask_as" { words.bytes() } else { b"" };
             let mut asker = asker(alloc, call, name)?;

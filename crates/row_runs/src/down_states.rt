@@ -87,11 +87,17 @@ pub(crate) fn play(
         "card_changed" => states.watch.card_changed(words.number()),
         "is_sdown" => {
             let (now, after) = (words.number(), words.number());
-            told.yes(states.watch.is_sdown(now, after, words.says("master", "node")));
+            told.yes(
+                states
+                    .watch
+                    .is_sdown(now, after, words.says("master", "node")),
+            );
         }
         "sdown_since" => {
             let (now, after) = (words.number(), words.number());
-            let since = states.watch.sdown_since(now, after, words.says("master", "node"));
+            let since = states
+                .watch
+                .sdown_since(now, after, words.says("master", "node"));
             told.maybe_number(since);
         }
         _ => return play_others(states, alloc, call, words, told),

@@ -106,7 +106,10 @@ fn tell_values(alloc: Global, pieces: &[Vec<u8>], told: &mut Told) {
 /// Tells the values of a stream that is cut in two at this place.
 fn halves(alloc: Global, bytes: &[u8], place: usize) -> Result<Told, Unplayed> {
     let (front, back) = bytes.split_at(place.min(bytes.len()));
-    let pieces = vec![in alloc; Vec::from_slice(alloc, front)?, Vec::from_slice(alloc, back)?]?;
+    let pieces = vec![in alloc;
+        Vec::from_slice(alloc, front)?,
+        Vec::from_slice(alloc, back)?,
+    ]?;
     let mut told = Told::new(alloc);
     tell_values(alloc, &pieces, &mut told);
     Ok(told)

@@ -101,6 +101,10 @@ pub(crate) fn play(
     for piece in words.rest() {
         hear(alloc, &mut session, piece, told)?;
     }
-    told.word(if session.is_waiting() { "waits" } else { "idle" });
+    told.word(if session.is_waiting() {
+        "waits"
+    } else {
+        "idle"
+    });
     Ok(())
 }

@@ -145,15 +145,26 @@ impl Stage {
             "best_replica" => best_replica::play(&mut self.replicas, call, words, told),
             "client_searches" => client_searches::play(&mut self.quest, alloc, call, words, told),
             "failover_turns" => failover_turns::play(&mut self.turns, alloc, call, words, told),
-            "every_command" | "failovers" | "notices" | "redis_profile" | "port_texts"
-            | "refusals" | "refused_memory" | "refused_votes" | "served_streams"
+            "every_command"
+            | "failovers"
+            | "notices"
+            | "redis_profile"
+            | "port_texts"
+            | "refusals"
+            | "refused_memory"
+            | "refused_votes"
+            | "served_streams"
             | "silent_masters" => sentinels::play(&mut self.lone, alloc, call, words, told),
             "broken_streams" => broken_streams::play(&mut self.streams, alloc, call, words, told),
             "clients" | "data_nodes_alone" => nodes::play(&mut self.node, alloc, call, words, told),
-            "courteous_streams" | "endings" | "listeners" | "refused_memory_of_sessions"
-            | "resp3" | "seats" | "single_answers" | "streams" => {
-                conversations::play(&mut self.talk, alloc, wait, call, words, told)
-            }
+            "courteous_streams"
+            | "endings"
+            | "listeners"
+            | "refused_memory_of_sessions"
+            | "resp3"
+            | "seats"
+            | "single_answers"
+            | "streams" => { conversations::play(&mut self.talk, alloc, wait, call, words, told) }
             _ => play(rt, family, call, words, told),
         }
     }

@@ -214,12 +214,7 @@ impl Lone {
     }
 
     /// Takes an input, stores and releases; tells what of it the call tells, and what changed.
-    fn give(
-        &mut self,
-        call: &str,
-        words: &mut Words<'_>,
-        told: &mut Told,
-    ) -> Result<(), Unplayed> {
+    fn give(&mut self, call: &str, words: &mut Words<'_>, told: &mut Told) -> Result<(), Unplayed> {
         let now = words.number();
         let event = event(self.alloc, words)?;
         self.outbox.clear();
@@ -321,12 +316,7 @@ impl Lone {
     }
 
     /// Tells what comes of a call with these words.
-    fn play(
-        &mut self,
-        call: &str,
-        words: &mut Words<'_>,
-        told: &mut Told,
-    ) -> Result<(), Unplayed> {
+    fn play(&mut self, call: &str, words: &mut Words<'_>, told: &mut Told) -> Result<(), Unplayed> {
         match call {
             "at" | "all" => self.give(call, words, told)?,
             "serve" => {

@@ -51,7 +51,10 @@ fn take_all(
     words: &mut Words<'_>,
     told: &mut Told,
 ) -> Result<(), Unplayed> {
-    for turn in words.rest().split(|word| word.as_slice() == b",".as_slice()) {
+    for turn in words
+        .rest()
+        .split(|word| word.as_slice() == b",".as_slice())
+    {
         let mut turn = Words::of(turn);
         match turn.text() {
             "replace" => {
@@ -70,7 +73,12 @@ fn take_all(
 
 /// Puts a text in a store that holds another one, once more where that lacked memory, and tells what is loaded then. A
 /// store that lacked memory is to hold what it held, and to count that.
-fn tell_put(mut store: MemoryStore, old: &[u8], new: &[u8], told: &mut Told) -> Result<(), Unplayed> {
+fn tell_put(
+    mut store: MemoryStore,
+    old: &[u8],
+    new: &[u8],
+    told: &mut Told,
+) -> Result<(), Unplayed> {
     if !put(&mut store, new) {
         let is_as_before = store.text() == old && store.failures() == 1;
         if !is_as_before || !put(&mut store, new) {
@@ -141,7 +149,11 @@ fn tell_mode_after(
     if put_there(rt, path, b"sentinel auth-pass mymaster secret\n", mode).is_err() {
         return Err(Unplayed::NoSuchFile);
     }
-    replace(&mut FileStore::at(*rt, rt.alloc(), path)?, b"port 26379\n", told);
+    replace(
+        &mut FileStore::at(*rt, rt.alloc(), path)?,
+        b"port 26379\n",
+        told,
+    );
     tell_mode(rt, path, told)
 }
 
