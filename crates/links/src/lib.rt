@@ -43,5 +43,5 @@ pub use target::{Target, connection_count, place_of, target_at};
 pub use tick_schedule::{TickSchedule, is_gap, pause_of, turn_of};
 pub use times::{
     ACKS_MS, CATCH_UP_MS, DIFFERENT_MS, FLOW_MS, HELLO_AGAIN_MS, HURRY_MS, KEEP_MS, LOOK_MS,
-    MUTE_MS, NO_HELLOS_MS, REST_MS, ROW_EACH_MS, STRANGERS_MS, SWITCH_MS, WAIT_MAX_MS,
+    MUTE_MS, NO_HELLOS_MS, REST_MS, ROW_EACH_MS, SLOT_MAX_MS, STRANGERS_MS, SWITCH_MS, WAIT_MAX_MS,
 };

@@ -3,7 +3,7 @@
 ghost use Rattle.std.specs.Prelude.{◌≡◌, ◌≤◌, ◌<◌, ◌↔◌, ◌+◌, ◌-◌, ◌*◌, ◌/◌, ◌%◌, ◌^◌, max, min, IsTrue};
 
 use crate::times::{
-    APART_MAX_MS, GAP_MS, HOLD_MAX_MS, HURRY_MS, LATE_MS, SLOT_MAX_MS, TICK_MAX_MS, TICK_MIN_MS,
+    APART_MAX_MS, GAP_MS, HOLD_MAX_MS, LATE_MS, SLOT_MAX_MS, TICK_MAX_MS, TICK_MIN_MS,
 };
 
 /// The turns of a Sentinel, by readings of one clock in milliseconds: `turned` is when the last one ended, `ticked`
@@ -43,15 +43,19 @@ pub fn turn_of(place: u16, number: u64, turns: u64) -> u64
     (u64::from(place) + number % turns) % turns
 }
 
-/// Delay before this Sentinel may campaign, in milliseconds, at most `HOLD_MAX_MS`: its slot (`turn` times the slot's
-/// length) plus up to half a slot, by lot. So Sentinels that find a master down together begin one after the other, and
-/// the first one has the votes of the others.
+/// Delay before this Sentinel may campaign, in milliseconds, at most `HOLD_MAX_MS`: none in the first turn, else its
+/// slot (`turn` times the slot's length) plus up to half a slot, by lot. So Sentinels that find a master down together
+/// begin one after the other, and the first one has the votes of the others.
 pub fn pause_of(turn: u64, turns: u64, lot: u64) -> u64
     requires { turn < turns }
+    ensures first { turn ≡ 0 → result ≡ 0 }
     ensures turn { turn * min SLOT_MAX_MS (HOLD_MAX_MS / turns) ≤ result }
     ensures lot { result ≤ turn * min SLOT_MAX_MS (HOLD_MAX_MS / turns) + min SLOT_MAX_MS (HOLD_MAX_MS / turns) / 2 }
     ensures most { result ≤ HOLD_MAX_MS }
 {
+    if turn == 0 {
+        return 0;
+    }
     let slot = slot_of(turns);
     turn * slot + lot % (slot / 2 + 1)
 }
@@ -109,13 +113,12 @@ impl TickSchedule {
         self.ticked = now;
     }
 
-    /// A switch is under way that a client asked for: the next ticks are due at most `HURRY_MS` after those that began
-    /// at this reading.
-    pub fn hurry(&mut self, now: u64)
-        ensures soon { now + HURRY_MS < 2 ^ 64 → self.new.tick_due ≡ min self.old.tick_due (now + HURRY_MS) }
+    /// A failover of its own is under way: the next ticks are due at most so many milliseconds after this reading.
+    pub fn hurry(&mut self, now: u64, within: u64)
+        ensures soon { now + within < 2 ^ 64 → self.new.tick_due ≡ min self.old.tick_due (now + within) }
         ensures turned { (self.new.turned ≡ self.old.turned) × (self.new.ticked ≡ self.old.ticked) }
     {
-        self.tick_due = self.tick_due.min(now.saturating_add(HURRY_MS));
+        self.tick_due = self.tick_due.min(now.saturating_add(within));
     }
 
     /// A campaign is near: the next ticks are held back for so many milliseconds from now. What is due later stays so,

@@ -70,8 +70,8 @@ pub const SWITCH_MS: u64 = 10_000;
 /// milliseconds: a master waits for that, and a replica does it once a second by itself.
 pub const ACKS_MS: u64 = 2_500;
 
-/// How long after an order the last hello goes out once more, in milliseconds: the node closes its clients for it, also
-/// those that were to hear that hello, and these are back by then.
+/// For how long after an order the last hello goes out again and again, in milliseconds: the node closes its clients
+/// for the order, also those that were to hear that hello, and these are back by then.
 pub const HELLO_AGAIN_MS: u64 = 150;
 
 /// How long it is between two questions of a connection for a row, in milliseconds.
@@ -88,7 +88,7 @@ pub const TICK_MIN_MS: u64 = 50;
 /// The longest time between two ticks, in milliseconds.
 pub const TICK_MAX_MS: u64 = 100;
 
-/// The longest time between two ticks while a switch is under way that a client asked for, in milliseconds.
+/// The longest time between two ticks while an own failover is on its way to a new master, in milliseconds.
 pub const HURRY_MS: u64 = 20;
 
 /// How far apart the turns of two Sentinels are that may begin a campaign, in milliseconds, where few of them share the

@@ -28,9 +28,9 @@ use Rattle.ballot_law.specs.declared.node_places.NodePlace.{NodePlace}
 use Rattle.sentinel_rules.specs.Plans.{Plan, me, roster_of, master_count, settings_at, nodes_of, node_name, node_named}
 use Rattle.sentinel_rules.specs.States.{is_master_role, Core, master_of, node_of, failover_of, card_place, is_failing_over, is_tilted, with_master, with_failover, with_card, is_planned, is_unrefused}
 use Rattle.sentinel_rules.specs.Parts.{Part, quiet, puts, then_part, part_if, frame_if, frames_from, output_of, send, hello_of_master}
-use Rattle.sentinel_rules.specs.Ticks.{is_peer_due, peer_frames, peers_part, Sending, sending_of, is_ping_due, is_info_due, is_hello_due, node_frames, nodes_part, turn_of, promote_frames, order_frames, row_part, start_turn, starts_now, start_part, is_ask_due, ask_candidate, ask_frames, ask_part, odown_part, failover_part, judging_part, master_part, with_reading, tick, planned_start, order_to, hands_over}
+use Rattle.sentinel_rules.specs.Ticks.{is_peer_due, peer_frames, peers_part, Sending, sending_of, is_ping_due, is_info_due, is_hello_due, node_frames, nodes_part, turn_of, promote_frames, order_frames, row_part, start_turn, starts_now, start_part, is_ask_due, awaits_votes, ask_candidate, ask_frames, ask_part, odown_part, failover_part, judging_part, master_part, with_reading, tick, planned_start, order_to, hands_over}
 use Rattle.sentinel_rules.specs.News.{at_same_address, at_new_address, card_taken, is_heeded, is_newer, raised_to, adopted, hello_heeded, hello_read, promotion, has_followed, reconfiguration, wrong_of, can_be_followed, is_role_overdue, is_address_overdue, correction, is_reconfiguring, judged, info_kept, info_of_node, info_read, closing_frames, with_frames, announced_at, greeted}
-use Rattle.sentinel_rules.specs.Profiles.{is_asking}
+use Rattle.sentinel_rules.specs.Profiles.{is_asking, is_redis, by_profile}
 use Rattle.ballot_law.specs.declared.addresses.RunId.{RunId}
 use Rattle.ballot_law.specs.declared.events.Event.{Event}
 use Rattle.ballot_law.specs.declared.addresses.Addr.{Addr}
@@ -142,7 +142,7 @@ start_frames : (plan : Plan) (m now : ℕ) (core : Core) → AreAimed plan (star
 start_frames plan m now core = all_if plan (not (is_failing_over core m)) core (λ c. quiet (planned_start m now (start_turn plan c m now) c)) (λ h. tt)
 
 own_candidate : (plan : Plan) (core : Core) (m : ℕ) → IsOwnOrNone plan (ask_candidate plan core m)
-own_candidate plan core m = by_test (is_failing_over core m)
+own_candidate plan core m = by_test (by_profile plan.profile (is_failing_over core m) (awaits_votes core m))
   where
     by_test : (test : Bool) → IsOwnOrNone plan (if test then Some (me plan) else None)
     by_test true = refl
@@ -211,8 +211,15 @@ hello_frames plan now (Ok hello) core =
     (λ h. heeded_frames plan now (master_named (roster_of plan) hello.master) hello core)
 
 closing_is : (plan : Plan) (m heir old : ℕ) (planned : Bool) → AreAimed plan (closing_frames plan m heir old planned)
-closing_is plan m heir old true = (tt, (tt, tt))
-closing_is plan m heir old false = tt
+closing_is plan m heir old planned =
+    all_append plan (frame_if (is_redis plan.profile) (HelloTo (node_name plan m heir) m))
+    (frame_if planned (PromoteTo (node_name plan m heir)) ++ frame_if planned (FollowTo (node_name plan m old) m))
+    (all_one plan (is_redis plan.profile) (HelloTo (node_name plan m heir) m) tt)
+    (by_test planned)
+  where
+    by_test : (planned : Bool) → AreAimed plan (frame_if planned (PromoteTo (node_name plan m heir)) ++ frame_if planned (FollowTo (node_name plan m old) m))
+    by_test true = (tt, (tt, tt))
+    by_test false = tt
 
 promotion_frames : (plan : Plan) (m k now : ℕ) (info : Info) (state : FailoverState) (core : Core) → AreAimed plan (promotion plan m k now info state core).frames
 promotion_frames plan m k now info (WaitPromotion epoch choice former) core =

@@ -86,6 +86,11 @@ pub(crate) fn note_watch<R: Log>(
     }
 }
 
+/// What is said of an `announce-ip` that is no address of this machine.
+const FOREIGN: &str =
+    "is no address of this machine: see that it is the right file, unless addresses are \
+                       translated (NAT)";
+
 /// The ip by which others know the Sentinel of this conf, where it is none of this machine.
 fn foreign_ip(rt: HostRuntime, conf: &Conf) -> Option<Ipv4Addr> {
     let own = conf.roster().sentinels().get(usize::from(conf.place()))?;
@@ -99,7 +104,7 @@ fn foreign_ip(rt: HostRuntime, conf: &Conf) -> Option<Ipv4Addr> {
 /// Notes that others know the Sentinel of the file by an ip that is none of this machine.
 pub(crate) fn note_foreign_ip<R: Log>(rt: HostRuntime, noting: &R, path: &str, conf: &Conf) {
     if let Some(ip) = foreign_ip(rt, conf) {
-        warn!(noting; "{path}:0: announce-ip {ip} is no address of this machine: see that it is the right file, unless addresses are translated (NAT)");
+        warn!(noting; "{path}:0: announce-ip {ip} {}", FOREIGN);
     }
 }
 
@@ -107,9 +112,7 @@ pub(crate) fn note_foreign_ip<R: Log>(rt: HostRuntime, noting: &R, path: &str, c
 pub(crate) fn tell_foreign_ip(rt: HostRuntime, file: &NamedConf) {
     if let Some(ip) = foreign_ip(rt, &file.conf) {
         let path = file.name.as_str();
-        let _ = eprintln!(rt;
-            "warning: {path}:0: announce-ip {ip} is no address of this machine: see that it is the right file, unless addresses are translated (NAT)"
-        );
+        let _ = eprintln!(rt; "warning: {path}:0: announce-ip {ip} {}", FOREIGN);
     }
 }
 

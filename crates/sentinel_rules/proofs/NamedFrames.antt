@@ -22,7 +22,7 @@ use Rattle.node_texts.specs.declared.faults.TextFault.{TextFault}
 use Rattle.node_texts.specs.Hellos.{hello_of}
 use Rattle.node_texts.specs.Infos.{info_of}
 use Rattle.node_texts.specs.Announced.{is_announced}
-use Rattle.sentinel_rules.specs.declared.frames.Frame.TheVariants.{PingTo, InfoTo, HelloTo, AskTo, FollowTo, NoteOf, HandOverTo}
+use Rattle.sentinel_rules.specs.declared.frames.Frame.TheVariants.{PingTo, InfoTo, HelloTo, AskTo, PromoteTo, FollowTo, NoteOf, HandOverTo}
 use Rattle.ballot_law.specs.declared.node_places.NodePlace.{NodePlace}
 use Rattle.sentinel_rules.specs.Plans.{Plan, roster_of, master_count, settings_at, node_name, node_named}
 use Rattle.sentinel_rules.specs.States.{is_master_role, Core, master_of, node_of, failover_of, card_place, is_failing_over, is_tilted, with_master, with_failover, with_card, is_planned, is_unrefused}
@@ -30,7 +30,7 @@ use Rattle.sentinel_rules.specs.Parts.{Part, quiet, puts, then_part, part_if, fr
 use Rattle.sentinel_rules.specs.Ticks.{is_peer_due, peer_frames, peers_part, Sending, sending_of, is_ping_due, is_info_due, is_hello_due, node_frames, nodes_part, turn_of, promote_frames, order_frames, row_part, start_turn, starts_now, start_part, is_ask_due, ask_candidate, ask_frames, ask_part, odown_part, failover_part, judging_part, master_part, with_reading, tick, planned_start, order_to, hands_over}
 use Rattle.sentinel_rules.specs.News.{at_same_address, at_new_address, card_taken, is_heeded, is_newer, raised_to, adopted, hello_heeded, hello_read, promotion, has_followed, reconfiguration, wrong_of, can_be_followed, is_role_overdue, is_address_overdue, correction, is_reconfiguring, judged, info_kept, info_of_node, info_read, closing_frames, with_frames, announced_at, greeted}
 use Rattle.sentinel_rules.specs.Named.{HellosNameMasters, IsNamed}
-use Rattle.sentinel_rules.specs.Profiles.{is_asking}
+use Rattle.sentinel_rules.specs.Profiles.{is_asking, is_redis}
 use Rattle.sentinel_rules.proofs.StepNews.{named_within}
 use Rattle.sentinel_rules.proofs.ShownOutputs.{AreNamed, named_append, named_one, named_each, named_if}
 
@@ -137,9 +137,16 @@ hello_frames plan now (Ok hello) core =
     named_if plan (is_heeded plan hello) core (hello_heeded plan now (master_named (roster_of plan) hello.master) hello)
     (λ h. heeded_frames plan now (master_named (roster_of plan) hello.master) hello core refl)
 
-closing_is : (plan : Plan) (m heir old : ℕ) (planned : Bool) → AreNamed plan (closing_frames plan m heir old planned)
-closing_is plan m heir old true = (tt, (tt, tt))
-closing_is plan m heir old false = tt
+closing_is : (plan : Plan) (m heir old : ℕ) (planned : Bool) → m < master_count plan → AreNamed plan (closing_frames plan m heir old planned)
+closing_is plan m heir old planned lt =
+    named_append plan (frame_if (is_redis plan.profile) (HelloTo (node_name plan m heir) m))
+    (frame_if planned (PromoteTo (node_name plan m heir)) ++ frame_if planned (FollowTo (node_name plan m old) m))
+    (named_one plan (is_redis plan.profile) (HelloTo (node_name plan m heir) m) lt)
+    (by_test planned)
+  where
+    by_test : (planned : Bool) → AreNamed plan (frame_if planned (PromoteTo (node_name plan m heir)) ++ frame_if planned (FollowTo (node_name plan m old) m))
+    by_test true = (tt, (tt, tt))
+    by_test false = tt
 
 promotion_frames : (plan : Plan) (m k now : ℕ) (info : Info) (state : FailoverState) (core : Core) → m < master_count plan →
     AreNamed plan (promotion plan m k now info state core).frames
@@ -152,7 +159,7 @@ promotion_frames plan m k now info (WaitPromotion epoch choice former) core lt =
     (λ h. named_append plan _ (closing_frames plan m k (card_place plan core m) (is_planned core m))
     (taken_frames plan m now (record { epoch = epoch; addr = choice.addr })
     (with_failover core m (promoted (WaitPromotion epoch choice former) (record (failover_of core m) { moment = now }))) lt)
-    (closing_is plan m k (card_place plan core m) (is_planned core m)))
+    (closing_is plan m k (card_place plan core m) (is_planned core m) lt))
 promotion_frames plan m k now info _ core lt = tt
 
 judged_frames : (plan : Plan) (m k now : ℕ) (info : Info) (core : Core) → m < master_count plan → AreNamed plan (judged plan m k now info core).frames

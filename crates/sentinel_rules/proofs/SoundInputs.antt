@@ -98,7 +98,7 @@ at_keeps plan core now (Tick m random) p s h = let f = tick_keeps plan m random 
 at_keeps plan core now (Commanded sender command) p s h = (commanded_sound plan now command core h s, omega arith)
 at_keeps plan core now (AnswerCame voter m addr down leader epoch) p s h = (answered_sound plan voter m now addr down leader epoch core s, omega arith)
 at_keeps plan core now (Pinged node reply) p s h = (pinged_sound plan node now reply core s, omega arith)
-at_keeps plan core now (InfoRead node text) p s h = let f = keeps_more plan 3 FRAMES_MAX _ (omega arith) (info_keeps plan node now (info_of text) (is_announced text) core s) in (f.sound, f.few)
+at_keeps plan core now (InfoRead node text) p s h = let f = keeps_more plan 4 FRAMES_MAX _ (omega arith) (info_keeps plan node now (info_of text) (is_announced text) core s) in (f.sound, f.few)
 at_keeps plan core now (HelloRead text) p s h = let f = keeps_more plan 1 FRAMES_MAX _ (omega arith) (hello_keeps plan now text core s) in (f.sound, f.few)
 at_keeps plan core now (Disconnected node) p s h = (disconnected_sound plan node core s, omega arith)
 at_keeps plan core now (Refused node) p s h = (refusal_sound plan node core s, omega arith)

@@ -31,7 +31,7 @@ use Rattle.node_texts.specs.declared.faults.TextFault.{TextFault}
 use Rattle.node_texts.specs.Hellos.{hello_of}
 use Rattle.node_texts.proofs.HelloBack.{hello_is}
 use Rattle.ballot_law.proofs.CountedVotes.{both}
-use Rattle.sentinel_rules.specs.declared.frames.Frame.TheVariants.{FollowTo, NoteOf}
+use Rattle.sentinel_rules.specs.declared.frames.Frame.TheVariants.{HelloTo, PromoteTo, FollowTo, NoteOf}
 use Rattle.ballot_law.specs.declared.node_places.NodePlace.{NodePlace}
 use Rattle.sentinel_rules.specs.declared.frames.Frame.{Frame}
 use Rattle.sentinel_rules.specs.Plans.{Plan, roster_of, group_size, master_count, settings_at, nodes_of, node_name, node_named}
@@ -295,9 +295,15 @@ refusal_sound plan node core s =
 
 -- INFO
 
-closing_few : (plan : Plan) (m heir old : ℕ) (planned : Bool) → length (closing_frames plan m heir old planned) ≤ 2
-closing_few plan m heir old true = omega arith
-closing_few plan m heir old false = omega arith
+closing_few : (plan : Plan) (m heir old : ℕ) (planned : Bool) → length (closing_frames plan m heir old planned) ≤ 3
+closing_few plan m heir old planned = by_tests (is_redis plan.profile) planned
+  where
+    by_tests : (hello orders : Bool) → length (frame_if hello (HelloTo (node_name plan m heir) m)
+        ++ (frame_if orders (PromoteTo (node_name plan m heir)) ++ frame_if orders (FollowTo (node_name plan m old) m))) ≤ 3
+    by_tests true true = omega arith
+    by_tests true false = omega arith
+    by_tests false true = omega arith
+    by_tests false false = omega arith
 
 keeps_frames : (plan : Plan) (room more : ℕ) (part : Part) (frames : List Frame) → length frames ≤ more → KeepsSound plan room part → KeepsSound plan (room + more) (with_frames part frames)
 keeps_frames plan room more part frames few f =
@@ -309,14 +315,14 @@ keeps_frames plan room more part frames few f =
     }
 
 promotion_keeps : (plan : Plan) (m k now : ℕ) (info : Info) (state : FailoverState) (core : Core) → (failover_of core m).state ≡ state → IsSound plan core →
-    KeepsSound plan 3 (promotion plan m k now info state core)
+    KeepsSound plan 4 (promotion plan m k now info state core)
 promotion_keeps plan m k now info (WaitPromotion epoch choice former) core e s =
-    keeps_if plan 3 ((k == choice.place) && is_master_role info.role) core
+    keeps_if plan 4 ((k == choice.place) && is_master_role info.role) core
     (λ c. with_frames
     (card_taken plan m now (record { epoch = epoch; addr = choice.addr })
     (with_failover c m (promoted (WaitPromotion epoch choice former) (record (failover_of c m) { moment = now }))))
     (closing_frames plan m k (card_place plan c m) (is_planned c m))) s
-    (λ h. keeps_frames plan 1 2 _ (closing_frames plan m k (card_place plan core m) (is_planned core m)) (closing_few plan m k (card_place plan core m) (is_planned core m))
+    (λ h. keeps_frames plan 1 3 _ (closing_frames plan m k (card_place plan core m) (is_planned core m)) (closing_few plan m k (card_place plan core m) (is_planned core m))
     (card_keeps plan m now (record { epoch = epoch; addr = choice.addr }) (with_failover core m f)
     (sound_failover plan core m f s (λ lt. record { replicas = length-map (failover_of core m).replicas forgotten ∙ (s.each m lt).replicas; epoch = low lt; choice = tt }))
     low
@@ -330,7 +336,7 @@ promotion_keeps plan m k now info (WaitPromotion epoch choice former) core e s =
 
     low : m < master_count plan → epoch ≤ core.kept.current
     low lt = subst (λ (st : FailoverState). IfSome (epoch_of st) (λ epoch. epoch ≤ core.kept.current)) e (s.each m lt).epoch
-promotion_keeps plan m k now info _ core e s = keeps_quiet plan 3 core s
+promotion_keeps plan m k now info _ core e s = keeps_quiet plan 4 core s
 
 pub reconfigured_sound : (plan : Plan) (kept : Kept) (m : ℕ) (state : FailoverState) (f : Failover) (k : ℕ) → IsSoundFailover plan kept m f →
     IsSoundFailover plan kept m (reconfigured state f k)
@@ -338,14 +344,14 @@ reconfigured_sound plan kept m (ReconfReplicas epoch choice former) f k s =
     record { replicas = length-set f.replicas k (followed (replica_at f.replicas k)) ∙ s.replicas; epoch = s.epoch; choice = s.choice }
 reconfigured_sound plan kept m _ f k s = s
 
-reconfiguration_keeps : (plan : Plan) (m k : ℕ) (info : Info) (core : Core) → IsSound plan core → KeepsSound plan 3 (reconfiguration m k info core)
+reconfiguration_keeps : (plan : Plan) (m k : ℕ) (info : Info) (core : Core) → IsSound plan core → KeepsSound plan 4 (reconfiguration m k info core)
 reconfiguration_keeps plan m k info core s =
-    keeps_if plan 3 (has_followed info (card_of core.kept m).addr) core (λ c. quiet (with_failover c m (reconfigured (failover_of c m).state (failover_of c m) k))) s
-    (λ h. keeps_quiet plan 3 (with_failover core m (reconfigured (failover_of core m).state (failover_of core m) k))
+    keeps_if plan 4 (has_followed info (card_of core.kept m).addr) core (λ c. quiet (with_failover c m (reconfigured (failover_of c m).state (failover_of c m) k))) s
+    (λ h. keeps_quiet plan 4 (with_failover core m (reconfigured (failover_of core m).state (failover_of core m) k))
     (sound_failover plan core m (reconfigured (failover_of core m).state (failover_of core m) k) s
     (λ lt. reconfigured_sound plan core.kept m (failover_of core m).state (failover_of core m) k (own_failover plan core m s lt))))
 
-correction_keeps : (plan : Plan) (m k now : ℕ) (info : Info) (core : Core) → IsSound plan core → KeepsSound plan 3 (correction plan m k now info core)
+correction_keeps : (plan : Plan) (m k now : ℕ) (info : Info) (core : Core) → IsSound plan core → KeepsSound plan 4 (correction plan m k now info core)
 correction_keeps plan m k now info core s =
     let wrong : Wrong = wrong_of now info (card_of core.kept m).addr (node_of core m k) in
     let role_told : Bool = is_role_overdue now wrong && can_be_followed plan core m now in
@@ -360,23 +366,23 @@ keeps_cond : (plan : Plan) (room : ℕ) (test : Bool) (a b : Part) → KeepsSoun
 keeps_cond plan room true a b f g = f
 keeps_cond plan room false a b f g = g
 
-judged_keeps : (plan : Plan) (m k now : ℕ) (info : Info) (core : Core) → IsSound plan core → KeepsSound plan 3 (judged plan m k now info core)
+judged_keeps : (plan : Plan) (m k now : ℕ) (info : Info) (core : Core) → IsSound plan core → KeepsSound plan 4 (judged plan m k now info core)
 judged_keeps plan m k now info core s =
-    keeps_cond plan 3 (is_failing_over core m)
+    keeps_cond plan 4 (is_failing_over core m)
     (if is_reconfiguring (failover_of core m).state then reconfiguration m k info core else promotion plan m k now info (failover_of core m).state core)
     (part_if (not (k == card_place plan core m)) core (correction plan m k now info))
-    (keeps_cond plan 3 (is_reconfiguring (failover_of core m).state) (reconfiguration m k info core) (promotion plan m k now info (failover_of core m).state core)
+    (keeps_cond plan 4 (is_reconfiguring (failover_of core m).state) (reconfiguration m k info core) (promotion plan m k now info (failover_of core m).state core)
     (reconfiguration_keeps plan m k info core s) (promotion_keeps plan m k now info (failover_of core m).state core refl s))
-    (keeps_if plan 3 (not (k == card_place plan core m)) core (correction plan m k now info) s (λ h. correction_keeps plan m k now info core s))
+    (keeps_if plan 4 (not (k == card_place plan core m)) core (correction plan m k now info) s (λ h. correction_keeps plan m k now info core s))
 
-at_node_keeps : (plan : Plan) (m k now : ℕ) (info : Info) (core : Core) → IsSound plan core → KeepsSound plan 3 (info_at_node plan m k now info core)
+at_node_keeps : (plan : Plan) (m k now : ℕ) (info : Info) (core : Core) → IsSound plan core → KeepsSound plan 4 (info_at_node plan m k now info core)
 at_node_keeps plan m k now info core s =
     let t : IsSound plan (info_kept m k now info core) = node_sound plan core m k (with_info now info (node_of core m k)) s in
-    keeps_if plan 3 (not (is_tilted (info_kept m k now info core))) (info_kept m k now info core) (judged plan m k now info) t
+    keeps_if plan 4 (not (is_tilted (info_kept m k now info core))) (info_kept m k now info core) (judged plan m k now info) t
     (λ h. judged_keeps plan m k now info (info_kept m k now info core) t)
 
-of_node_keeps : (plan : Plan) (now : ℕ) (at : Option NodePlace) (info : Info) (core : Core) → IsSound plan core → KeepsSound plan 3 (info_of_node plan now at info core)
-of_node_keeps plan now None info core s = keeps_quiet plan 3 core s
+of_node_keeps : (plan : Plan) (now : ℕ) (at : Option NodePlace) (info : Info) (core : Core) → IsSound plan core → KeepsSound plan 4 (info_of_node plan now at info core)
+of_node_keeps plan now None info core s = keeps_quiet plan 4 core s
 of_node_keeps plan now (Some at) info core s = at_node_keeps plan at.master at.place now info core s
 
 pub announced_at_sound : (plan : Plan) (announced : Bool) (at : Option NodePlace) (core : Core) → IsSound plan core → IsSound plan (announced_at announced at core)
@@ -384,8 +390,8 @@ announced_at_sound plan announced None core s = s
 announced_at_sound plan announced (Some at) core s = node_sound plan core at.master at.place (node_announced announced (node_of core at.master at.place)) s
 
 pub info_keeps : (plan : Plan) (node : NodeName) (now : ℕ) (read : Result Info TextFault) (announced : Bool) (core : Core) → IsSound plan core →
-    KeepsSound plan 3 (info_read plan node now read announced core)
-info_keeps plan node now (Err fault) announced core s = keeps_quiet plan 3 core s
+    KeepsSound plan 4 (info_read plan node now read announced core)
+info_keeps plan node now (Err fault) announced core s = keeps_quiet plan 4 core s
 info_keeps plan node now (Ok info) announced core s =
     of_node_keeps plan now (node_named plan node) info (announced_at announced (node_named plan node) core)
     (announced_at_sound plan announced (node_named plan node) core s)

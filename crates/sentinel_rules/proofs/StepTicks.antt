@@ -28,10 +28,10 @@ use Rattle.sentinel_rules.specs.Parts.{Part, quiet, puts, then_part, part_if, ch
 use Rattle.sentinel_rules.specs.Profiles.{is_asking, election_ms, rest_of, rested, awaited_up, disobeyed, with_failed, by_profile, marked, rested_at}
 use Rattle.sentinel_rules.specs.declared.profiles.Profile.{Profile}
 use Rattle.sentinel_rules.specs.declared.profiles.Profile.TheVariants.{Strict, Redis}
-use Rattle.sentinel_rules.specs.Endings.{is_vain, given_up, is_overtaken, taken_up, let_go}
+use Rattle.sentinel_rules.specs.Endings.{is_contested, is_vain, given_up, is_overtaken, taken_up, let_go}
 use Rattle.sentinel_rules.specs.Votes.{book_of, mark_for}
 use Rattle.sentinel_rules.specs.Contacts.{since_after}
-use Rattle.sentinel_rules.specs.Ticks.{peer_after, peers_part, sending_of, node_after, nodes_part, campaign_epoch, known_of, turn_of, with_vote, with_win, row_part, after_start, is_start_due, start_turn, starts_now, start_part, is_ask_due, ask_frames, ask_candidate, ask_part, odown_kept, odown_part, failover_part, judging_part, master_part, with_reading, tick, planned_start, with_plan, planned_if}
+use Rattle.sentinel_rules.specs.Ticks.{peer_after, peers_part, sending_of, node_after, nodes_part, campaign_epoch, count_of, known_of, turn_of, with_vote, with_win, row_part, after_start, is_start_due, start_turn, starts_now, start_part, is_ask_due, ask_frames, ask_candidate, ask_part, odown_kept, odown_part, failover_part, judging_part, master_part, with_reading, tick, planned_start, with_plan, planned_if}
 use Rattle.sentinel_rules.specs.Facts.{IsSoundPlan, IsSound, IsAwaited}
 use Rattle.sentinel_rules.specs.Steps.{campaign_in, IsOpenOf, IsPartsOf}
 use Rattle.sentinel_rules.proofs.KeptParts.{own_entry}
@@ -195,6 +195,11 @@ module _ (plan : Plan) (event : Event) (m now : ℕ) (core : Core) (p : IsSoundP
   abbrev book_asked : (epoch : ℕ) → Book
   book_asked epoch = asked (book_of core m) epoch (known_of plan core m now false).pick
 
+  -- no more votes count than were heard
+  counted_most : (test : Bool) (heard own : ℕ) → need (roster_of plan) m ≤ (if test then 0 else heard) + own → need (roster_of plan) m ≤ heard + own
+  counted_most true heard own h = omega (arith, h)
+  counted_most false heard own h = h
+
   -- the votes that elect in the campaign's epoch
   elected_by : (epoch : ℕ) → (failover_of core m).state ≡ WaitStart epoch → is_elected epoch (known_of plan core m now false) ≡ true
       → IsElectedIn (kept_at (master_of core m).heard) (book_asked epoch) (length (master_of core m).heard) epoch (me plan) (need (roster_of plan) m)
@@ -204,7 +209,8 @@ module _ (plan : Plan) (event : Event) (m now : ℕ) (core : Core) (p : IsSoundP
       (λ (n : ℕ). need (roster_of plan) m ≤ count_in (kept_at (master_of core m).heard) (length (master_of core m).heard) n (me plan) + own_votes (book_asked epoch) epoch
       (me plan))
       at
-      (leb-true (need (roster_of plan) m) ((known_of plan core m now false).count + own_votes (book_asked epoch) epoch (me plan)) h)
+      (counted_most (is_contested plan core m now) (count_of plan core m (campaign_epoch core m)) (own_votes (book_asked epoch) epoch (me plan))
+      (leb-true (need (roster_of plan) m) ((known_of plan core m now false).count + own_votes (book_asked epoch) epoch (me plan)) h))
 
   -- where no vote is given
   quiet_turn : (state : FailoverState) → (failover_of core m).state ≡ state → (state ≡ Idle → ⊥) → (turn_in_state state).vote ≡ None

@@ -7,13 +7,13 @@ use Rattle.std.specs.Str.{is_utf8, chars}
 use Rattle.ballot_law.specs.Words.{hex}
 use Rattle.failover_states.specs.Replicas.{told, is_due, is_next}
 use Rattle.sentinel_rules.specs.States.{is_unrefused}
-use Rattle.sentinel_rules.specs.Endings.{is_outvoted, is_split_in}
+use Rattle.sentinel_rules.specs.Endings.{is_outvoted, is_contested, is_split_in}
 use Rattle.sentinel_rules.specs.Ticks.{hands_over}
 use Rattle.sentinel_rules.specs.Worked.{OneVoteAnEpoch, QuestionsRaiseNothing, NothingOfNobody, VoteAfterARestart, ShortAnswers, InfoInBytes, AFailover, FailoverGoesOn, ATickInFull, HelloInBytes, VotesOfAnotherEpoch, VoteThatWasNotStored, NoEpochIsLeft, AdoptionEndsAFailover, OnlyNewerIsAdopted, NothingIsJudgedInTilt, AVoteDelaysTheOwnCampaign, ReplicasOneByOne, AFormerMasterFollows, AReplicaOfAnotherFollows, ShownInAFailover, ASwitchForgetsTheStart, ALostCandidateHoldsNobodyBack, AGhostGetsNoVote, WhoRefusesIsPassedOver, APlannedSwitch, ASwitchAtTheNodes}
 
 -- what is unfolded to compute texts and failovers that are written out
 unfoldable pub on_literals : ⊤
-unfolding is_unrefused hands_over is_outvoted is_split_in told is_due is_next is_utf8 chars encode digits hex
+unfolding is_unrefused hands_over is_outvoted is_contested is_split_in told is_due is_next is_utf8 chars encode digits hex
 on_literals = tt
 
 pub one_vote_an_epoch : OneVoteAnEpoch

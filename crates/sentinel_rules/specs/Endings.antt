@@ -3,6 +3,7 @@ use Rattle.std.specs.Prelude.{ℕ, ◌+◌, Bool, true, false, not, ◌&&◌, �
 use Rattle.ballot_law.specs.declared.addresses.RunId.{RunId}
 use Rattle.ballot_law.specs.declared.hearings.HeardVote.{HeardVote}
 use Rattle.ballot_law.specs.Counts.{count_below}
+use Rattle.ballot_law.specs.Reports.{is_odown_by, kept_at as report_at}
 use Rattle.ballot_law.specs.Rosters.{need}
 use Rattle.down_detector.specs.Ups.{says_up}
 use Rattle.ballot_law.specs.VotesHeard.{kept_at, pick_in, count_in}
@@ -11,10 +12,10 @@ use Rattle.failover_states.specs.declared.states.FailoverState.TheVariants.{Idle
 use Rattle.failover_states.specs.Calls.{choice_of, epoch_of, recalled}
 use Rattle.failover_states.specs.Failovers.{ended}
 use Rattle.vote_book.specs.Elections.{elects}
-use Rattle.sentinel_rules.specs.declared.periods.TheConstants.{SWITCH_MS}
+use Rattle.sentinel_rules.specs.declared.periods.TheConstants.{SWITCH_MS, ASK_MS}
 use Rattle.sentinel_rules.specs.Plans.{Plan, roster_of, me, group_size}
 use Rattle.sentinel_rules.specs.States.{Core, master_of, node_of, failover_of, with_master, card_place, is_recent, is_planned, is_handed, is_peer_down, is_master_down, says_replica}
-use Rattle.sentinel_rules.specs.Profiles.{by_profile, is_choice_lost, is_electing, marked, rested_at}
+use Rattle.sentinel_rules.specs.Profiles.{by_profile, is_below, is_choice_lost, is_electing, marked, rested_at}
 use Rattle.sentinel_rules.specs.Votes.{book_of}
 
 -- no node was told anything yet, so the failover can end as if it hadn't begun
@@ -29,21 +30,36 @@ is_untold (UpdateConfig epoch choice) = false
 
 -- A master that is back
 
--- it is up and connected, and doesn't say that it is a replica
-abbrev pub is_well : Plan → Core → (m now : ℕ) → Bool
-is_well plan core m now =
-    let node = node_of core m (card_place plan core m) in
-    not (is_master_down plan core m now || (node.lost || says_replica node.info))
+-- the failover is of a switch that was asked for, or made at the nodes: the node of the configuration may be up
+abbrev pub is_switch : Plan → Core → (m : ℕ) → Bool
+is_switch plan core m = is_planned core m || says_replica (node_of core m (card_place plan core m)).info
 
--- More than half of the group have said since they were asked last that it is up. It is this Sentinel that doesn't reach it, as where a cut has healed, and its own
--- connection isn't back yet
+-- it is up and connected
+abbrev pub is_reached : Plan → Core → (m now : ℕ) → Bool
+is_reached plan core m now = not (is_master_down plan core m now || (node_of core m (card_place plan core m)).lost)
+
+-- how many of the others have said since they were asked last that it is up
+abbrev pub ups : Core → (m : ℕ) → ℕ
+ups core m = count_by (says_up (unwrap_or (master_of core m).ask_sent 0)) (master_of core m).reports
+
+-- More than half of the group have. It is this Sentinel that doesn't reach it, as where a cut has healed, and its own connection isn't back yet
 unfoldable pub is_outvoted : Plan → Core → (m : ℕ) → Bool
-is_outvoted plan core m =
-    nat_lt (group_size plan / 2) (count_by (says_up (unwrap_or (master_of core m).ask_sent 0)) (master_of core m).reports)
+is_outvoted plan core m = nat_lt (group_size plan / 2) (ups core m)
 
 -- the failover was begun since the master was down, and it is back, or is up for the others: a replica that took its place would lose what it wrote
 abbrev pub is_needless : Plan → Core → (m now : ℕ) → Bool
-is_needless plan core m now = not (is_planned core m) && (is_well plan core m now || is_outvoted plan core m)
+is_needless plan core m now = not (is_switch plan core m) && (is_reached plan core m now || is_outvoted plan core m)
+
+-- with this Sentinel more than half of the group find it down
+abbrev pub is_most_down : Plan → Core → (m now : ℕ) → Bool
+is_most_down plan core m now =
+    is_odown_by true (report_at (master_of core m).reports) (length (master_of core m).reports) now (group_size plan / 2 + 1)
+
+-- One says that it is up, and less than a majority finds it down, as where the quorum is below one and a cut has healed. Votes don't count then: whoever gives one
+-- may reach the master, and the other answers, or the own connection to it, are on their way. By the strict rule, as in Redis, votes count whatever voters say
+unfoldable pub is_contested : Plan → Core → (m now : ℕ) → Bool
+is_contested plan core m now =
+    by_profile plan.profile false (not (is_switch plan core m) && (nat_lt 0 (ups core m) && not (is_most_down plan core m now)))
 
 -- A switch that was asked for too long ago
 
@@ -78,13 +94,22 @@ has_won plan core m epoch candidate =
     elects (book_of core m) (count_in (kept_at (master_of core m).heard) (length (master_of core m).heard) epoch candidate) epoch candidate
     (need (roster_of plan) m)
 
--- as many have answered as could elect, all have that are up, and no candidate has won
+-- as many have answered as could elect, and all have that are up
+abbrev pub is_answered : Plan → Core → (m now epoch : ℕ) → Bool
+is_answered plan core m now epoch =
+    nat_le (need (roster_of plan) m) (answers plan core m epoch + 1) && awaited_answers plan core m now epoch == 0
+
+-- The current epoch is a later one, as where others campaign for other masters at the same time, and the answers have had their time. Whoever is asked again is
+-- asked in the current epoch
+abbrev pub is_passed : Core → (m now epoch : ℕ) → Bool
+is_passed core m now epoch = nat_lt epoch core.kept.current && not (is_below (master_of core m).ask_sent now ASK_MS)
+
+-- no vote of this epoch is to come any more, and no candidate has won
 unfoldable pub is_split_in : Plan → Core → (m now epoch : ℕ) → Bool
 is_split_in plan core m now epoch =
-    nat_le (need (roster_of plan) m) (answers plan core m epoch + 1)
-    && (awaited_answers plan core m now epoch == 0
+    (is_answered plan core m now epoch || is_passed core m now epoch)
     && not (has_won plan core m epoch (me plan)
-    || has_won plan core m epoch (pick_in (kept_at (master_of core m).heard) (length (master_of core m).heard) epoch (me plan))))
+    || has_won plan core m epoch (pick_in (kept_at (master_of core m).heard) (length (master_of core m).heard) epoch (me plan)))
 
 abbrev pub is_split : Plan → Core → (m now : ℕ) → Bool
 is_split plan core m now =

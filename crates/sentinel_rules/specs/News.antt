@@ -26,7 +26,7 @@ use Rattle.node_texts.specs.declared.faults.TextFault.{TextFault}
 use Rattle.sentinel_rules.specs.declared.periods.TheConstants.{WRONG_ROLE_MS}
 use Rattle.sentinel_rules.specs.declared.profiles.Profile.{Profile}
 use Rattle.sentinel_rules.specs.declared.frames.Frame.{Frame}
-use Rattle.sentinel_rules.specs.declared.frames.Frame.TheVariants.{PromoteTo, FollowTo, NoteOf}
+use Rattle.sentinel_rules.specs.declared.frames.Frame.TheVariants.{HelloTo, PromoteTo, FollowTo, NoteOf}
 use Rattle.ballot_law.specs.declared.node_places.NodePlace.{NodePlace}
 use Rattle.sentinel_rules.specs.Plans.{Plan, roster_of, me, group_size, master_count, settings_at, nodes_of, node_name, node_named}
 use Rattle.sentinel_rules.specs.States.{Core, is_master_role, says_master, MasterState, NodeState, PeerState, master_of, node_of, peer_of, failover_of, card_place, is_failing_over, is_tilted, is_planned, is_awaiting, is_at, is_master_down, with_master, with_node, with_failover, with_current, with_card}
@@ -261,10 +261,12 @@ with_info now info node =
       role_since = role_since_after now info.role node.info node.role_since;
     }
 
--- after a switch that was asked for the clients of both nodes are sent away, so that they ask for the master anew: these orders change nothing else at the nodes
+-- In the profile of Redis the new master publishes a hello at once, so that the others needn't wait for the next tick. After a switch that was asked for the clients
+-- of both nodes are sent away then, so that they ask for the master anew: these orders change nothing else at the nodes
 abbrev pub closing_frames : Plan → (m heir old : ℕ) → (planned : Bool) → List Frame
 closing_frames plan m heir old planned =
-    frame_if planned (PromoteTo (node_name plan m heir)) ++ frame_if planned (FollowTo (node_name plan m old) m)
+    frame_if (is_redis plan.profile) (HelloTo (node_name plan m heir) m)
+    ++ (frame_if planned (PromoteTo (node_name plan m heir)) ++ frame_if planned (FollowTo (node_name plan m old) m))
 
 -- what is put out behind a part
 abbrev pub with_frames : Part → List Frame → Part

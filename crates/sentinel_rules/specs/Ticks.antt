@@ -1,6 +1,6 @@
 -- A tick of one master: the clock, what is due to be sent, what is down, the failover, the questions to the other Sentinels.
 use Rattle.std.specs.Prelude.{ℕ, zero, suc, ◌+◌, ◌-◌, min, Bool, true, false, not, ◌&&◌, ◌||◌, nat_lt, nat_le, ◌==◌, is_some, Option, Some, None, unwrap_or, option_map, List, [], ◌∷◌, ◌++◌, length, if◌then◌else◌}
-use Rattle.std.specs.List.{list_all}
+use Rattle.std.specs.List.{list_all, list_any}
 use Rattle.ballot_law.specs.declared.addresses.Addr.{Addr}
 use Rattle.ballot_law.specs.declared.addresses.RunId.{RunId}
 use Rattle.ballot_law.specs.declared.messages.NodeName.TheVariants.{SentinelAt}
@@ -22,16 +22,16 @@ use Rattle.failover_states.specs.Calls.{epoch_of, choice_of as chosen_place}
 use Rattle.failover_states.specs.Known.{Known}
 use Rattle.failover_states.specs.Table.{Turn, turned}
 use Rattle.sentinel_rules.specs.declared.assumed.TheConstants.{ASSUMED_INFO}
-use Rattle.sentinel_rules.specs.declared.periods.TheConstants.{PING_MS, INFO_MS, BUSY_INFO_MS, HEIR_INFO_MS, HELLO_MS, ASK_MS}
+use Rattle.sentinel_rules.specs.declared.periods.TheConstants.{PING_MS, INFO_MS, BUSY_INFO_MS, HEIR_INFO_MS, HELLO_MS, HELLO_LATE_MS, ASK_MS}
 use Rattle.sentinel_rules.specs.declared.frames.Frame.{Frame}
 use Rattle.sentinel_rules.specs.declared.frames.Frame.TheVariants.{PingTo, InfoTo, HelloTo, AskTo, PromoteTo, HandOverTo, FollowTo}
 use Rattle.sentinel_rules.specs.Contacts.{contact_asked, since_after}
 use Rattle.sentinel_rules.specs.Plans.{Plan, roster_of, me, master_count, settings_at, nodes_of, addr_at, node_name}
 use Rattle.sentinel_rules.specs.States.{Core, NodeState, PeerState, master_of, node_of, failover_of, with_master, with_failover, with_current, is_at, card_place, place_followed, is_failing_over, is_tilted, is_wished, is_planned, is_unrefused, is_handed, is_node_down, is_master_down, is_odown_at}
 use Rattle.sentinel_rules.specs.Parts.{Part, quiet, puts, then_part, part_if, frame_if, changed_from, frames_from}
-use Rattle.sentinel_rules.specs.Profiles.{by_profile, may_begin, patience, with_pause, awaited_up, disobeyed, with_failed, is_passed_over, switched_to, is_switch_due, is_given_away, first_of, is_asking, is_looking, master_down_ms}
+use Rattle.sentinel_rules.specs.Profiles.{by_profile, may_begin, patience, with_pause, awaited_up, disobeyed, with_failed, is_passed_over, switched_to, is_switch_due, is_given_away, first_of, is_asking, is_electing, is_looking, master_down_ms}
 use Rattle.sentinel_rules.specs.Votes.{book_of, with_book, mark_for}
-use Rattle.sentinel_rules.specs.Endings.{let_go}
+use Rattle.sentinel_rules.specs.Endings.{is_contested, let_go}
 
 -- What is due
 
@@ -72,7 +72,7 @@ abbrev pub had_link_down : Option Info → Bool
 had_link_down None = false
 had_link_down (Some info) = nat_lt 0 info.link_down_s
 
--- INFO each 10 seconds; each second to a replica whose master is down or fails over, or whose link was down; ten times a second to the one to which the master
+-- INFO each 10 seconds; each second to a replica whose master is down or fails over, or whose link was down; each 20 ms to the one to which the master
 -- hands over
 abbrev pub info_period : (is_heir is_card is_busy : Bool) → NodeState → ℕ
 info_period is_heir is_card is_busy node =
@@ -88,9 +88,16 @@ pub record Sending : Type 0 where
   pub heir : Option ℕ
   pub followed : Option ℕ
   pub looks : Bool
+  pub hello_ms : ℕ
 
 abbrev pub heir_of : Core → (m : ℕ) → Option ℕ
 heir_of core m = if is_handed core m then chosen_place (failover_of core m).state else None
+
+-- A hello each two seconds. Where an own campaign awaits votes hellos wait: one that overtakes a request for a vote would raise the epoch of whoever is asked, and
+-- the request would be of an epoch that has passed
+abbrev pub hello_period : Plan → Core → ℕ
+hello_period plan core =
+    by_profile plan.profile HELLO_MS (if list_any (λ master. is_electing master.failover.state) core.masters then HELLO_LATE_MS else HELLO_MS)
 
 abbrev pub sending_of : Plan → Core → (m now : ℕ) → Sending
 sending_of plan core m now =
@@ -102,6 +109,7 @@ sending_of plan core m now =
       heir = heir_of core m;
       followed = place_followed plan m (unwrap_or (node_of core m (card_place plan core m)).info ASSUMED_INFO).master;
       looks = is_looking plan core m now;
+      hello_ms = hello_period plan core;
     }
 
 abbrev pub is_ping_due : Sending → NodeState → Bool
@@ -112,7 +120,7 @@ is_info_due s k node =
     is_due node.info_sent s.now (info_period (is_at s.heir k || (s.looks && (is_at s.followed k || (k == s.card_place)))) (k == s.card_place) s.is_busy node)
 
 abbrev pub is_hello_due : Sending → NodeState → Bool
-is_hello_due s node = is_due node.hello_sent s.now HELLO_MS
+is_hello_due s node = is_due node.hello_sent s.now s.hello_ms
 
 abbrev pub node_after : Sending → (k : ℕ) → NodeState → NodeState
 node_after s k node =
@@ -208,6 +216,10 @@ abbrev pub count_of : Plan → Core → (m epoch : ℕ) → ℕ
 count_of plan core m epoch =
     count_in (kept_at (master_of core m).heard) (length (master_of core m).heard) epoch (me plan)
 
+-- the votes that count in a turn
+abbrev pub counted : Plan → Core → (m now epoch : ℕ) → ℕ
+counted plan core m now epoch = if is_contested plan core m now then 0 else count_of plan core m epoch
+
 abbrev pub known_of : Plan → Core → (m now : ℕ) → (odown : Bool) → Known
 known_of plan core m now odown =
     record {
@@ -220,7 +232,7 @@ known_of plan core m now odown =
       me = me plan;
       need = need (roster_of plan) m;
       pick = pick_of plan core m (campaign_epoch core m);
-      count = count_of plan core m (campaign_epoch core m);
+      count = counted plan core m now (campaign_epoch core m);
       best = best_of plan core m now;
       card_place = card_place plan core m;
       down = at_places (is_node_down plan core m now) 0 (length (nodes_of plan m));
@@ -327,9 +339,14 @@ abbrev pub is_ask_due : (started : Bool) → Option ℕ → (now : ℕ) → Bool
 is_ask_due started None now = true
 is_ask_due started (Some sent) now = started || nat_le ASK_MS (age sent now)
 
--- with the own run id while a failover runs, which asks for a vote
+-- votes are awaited, of the current epoch, in which the others are asked
+abbrev pub awaits_votes : Core → (m : ℕ) → Bool
+awaits_votes core m = is_electing (failover_of core m).state && (campaign_epoch core m == core.kept.current)
+
+-- With the own run id, which asks for a vote, while a failover runs. In the profile of Redis while votes are awaited alone: a vote that doesn't count is stored, too,
+-- and puts the campaign of whoever gives it off
 abbrev pub ask_candidate : Plan → Core → (m : ℕ) → Option RunId
-ask_candidate plan core m = if is_failing_over core m then Some (me plan) else None
+ask_candidate plan core m = if by_profile plan.profile (is_failing_over core m) (awaits_votes core m) then Some (me plan) else None
 
 abbrev pub ask_frames : Plan → (m : ℕ) → Option RunId → (place : ℕ) → PeerState → List Frame
 ask_frames plan m candidate place peer = frame_if (not (place == plan.place)) (AskTo place m candidate)

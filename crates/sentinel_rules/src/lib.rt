@@ -26,9 +26,9 @@ pub use laws::{
     law_outputs_are_within,
 };
 pub use periods::{
-    ASK_MS, BUSY_INFO_MS, HANDED_MS, HEIR_INFO_MS, HELLO_MS, HOLD_MS, INFO_MS, LINK_MAX_S,
-    LOOKED_MS, PING_MS, QUIET_MS, SWITCH_MS, SWITCHED_MS, WISH_MS, WRONG_ROLE_MS, law_periods,
-    law_waits,
+    ASK_MS, BUSY_INFO_MS, HANDED_MS, HEIR_INFO_MS, HELLO_LATE_MS, HELLO_MS, HOLD_MS, INFO_MS,
+    LINK_MAX_S, LOOKED_MS, PING_MS, QUIET_MS, SWITCH_MS, SWITCHED_MS, WISH_MS, WRONG_ROLE_MS,
+    law_periods, law_waits,
 };
 pub use profiles::Profile;
 pub use worked::{

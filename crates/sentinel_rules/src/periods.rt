@@ -1,7 +1,7 @@
 //! How often a Sentinel sends what, and how long it bears what is wrong, in milliseconds.
 
 ghost use Rattle.std.specs.Prelude.{◌≡◌};
-ghost use Rattle.sentinel_rules.specs.declared.periods.TheConstants.{ASK_MS, BUSY_INFO_MS, HELLO_MS, INFO_MS, PING_MS, WRONG_ROLE_MS, LINK_MAX_S, LOOKED_MS, HOLD_MS, QUIET_MS, SWITCHED_MS, SWITCH_MS, WISH_MS, HANDED_MS, HEIR_INFO_MS};
+ghost use Rattle.sentinel_rules.specs.declared.periods.TheConstants.{ASK_MS, BUSY_INFO_MS, HELLO_MS, HELLO_LATE_MS, INFO_MS, PING_MS, WRONG_ROLE_MS, LINK_MAX_S, LOOKED_MS, HOLD_MS, QUIET_MS, SWITCHED_MS, SWITCH_MS, WISH_MS, HANDED_MS, HEIR_INFO_MS};
 ghost use Rattle.ballot_law.specs.declared.periods.TheConstants.{HAND_OVER_MS};
 ghost use Rattle.std.specs.Prelude.{◌+◌};
 ghost use Rattle.failover_states.specs.declared.periods.TheConstants.{ELECTION_MS, SPREAD_MS};
@@ -17,6 +17,9 @@ pub const BUSY_INFO_MS: u64 = 1_000;
 
 /// How often a hello is sent.
 pub const HELLO_MS: u64 = 2_000;
+
+/// How often a hello is sent while an own campaign awaits votes, in the profile of Redis.
+pub const HELLO_LATE_MS: u64 = 4_000;
 
 /// How often the other Sentinels are asked whether a master is down.
 pub const ASK_MS: u64 = 1_000;
@@ -51,15 +54,16 @@ pub const HANDED_MS: u64 = 2_500;
 pub const LOOKED_MS: u64 = 3_000;
 
 /// How often INFO is sent to that choice.
-pub const HEIR_INFO_MS: u64 = 100;
+pub const HEIR_INFO_MS: u64 = 20;
 
 /// The periods of sending, and what is borne, as numbers. Definitions and code cite them by name.
 pub fn law_periods()
     ensures ping { PING_MS ≡ 1000 }
     ensures info { INFO_MS ≡ 10000 }
     ensures busy_info { BUSY_INFO_MS ≡ 1000 }
-    ensures heir { HEIR_INFO_MS ≡ 100 }
+    ensures heir { HEIR_INFO_MS ≡ 20 }
     ensures hello { HELLO_MS ≡ 2000 }
+    ensures late { HELLO_LATE_MS ≡ 4000 }
     ensures ask { ASK_MS ≡ 1000 }
     ensures wrong_role { WRONG_ROLE_MS ≡ 8000 }
     ensures link { LINK_MAX_S ≡ 4294967295 }

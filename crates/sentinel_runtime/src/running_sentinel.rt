@@ -145,8 +145,9 @@ impl<J: Which> ThreadSeat<J> {
     }
 
     /// The number of a campaign that has come near since this was asked last: one that is near stays so, and doesn't
-    /// come again. It is the epoch of the master's configuration with the master's own number: the same for all
-    /// Sentinels that know that configuration.
+    /// come again. It is the least epoch of the masters' configurations, the same for all masters and for all Sentinels
+    /// that know these. So where several masters die together one Sentinel opens the campaigns of all, epoch by epoch,
+    /// and the others vote in that order; two that campaign for different masters take each other's epochs.
     pub fn take_nearness(&mut self) -> Option<u64>
         ensures { (self.new.seat ≡ self.old.seat) × (self.new.outbox ≡ self.old.outbox) }
     {

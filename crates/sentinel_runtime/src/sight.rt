@@ -46,6 +46,14 @@ fn is_campaign_near(plan: &Plan, core: &Core, at: u64, m: u16) -> bool
     flags.agreed && !flags.failing_over
 }
 
+/// The least epoch of the configurations of all masters: the same for all Sentinels that know these.
+fn least_epoch(plan: &Plan, core: &Core) -> u64 {
+    (0..plan.master_count())
+        .map(|m| core.card(m).epoch)
+        .min()
+        .unwrap_or(0)
+}
+
 /// Whether any failover of the Sentinel's own is on its way to a new master, by the profile.
 fn is_any_on_its_way(plan: &Plan, core: &Core) -> bool {
     if !plan.profile().is_redis() {
@@ -147,8 +155,7 @@ impl Sight {
         if let Some((master, at)) = self.ahead {
             if master < plan.master_count() {
                 let is_near = is_campaign_near(plan, core, at, master);
-                let number = core.card(master).epoch.saturating_add(u64::from(master));
-                self.nearness.see(master, is_near, number);
+                self.nearness.see(master, is_near, least_epoch(plan, core));
             }
         }
         self.ahead = None;

@@ -157,9 +157,10 @@ impl Ticker {
         true
     }
 
-    /// Ticks one master: whether the Sentinel goes on. The random number of a tick is the part of a second that the
-    /// clock shows, in nanoseconds, which differs from tick to tick and from Sentinel to Sentinel.
-    fn tick_one<J: Which, S: ConfStore, O: Outlet<J>, R: Wait + Clock + Log>(
+    /// Ticks one master: whether the Sentinel goes on. What it says goes to the outlet. The random number of a tick is
+    /// the part of a second that the clock shows, in nanoseconds, which differs from tick to tick and from Sentinel to
+    /// Sentinel.
+    pub fn tick_one<J: Which, S: ConfStore, O: Outlet<J>, R: Wait + Clock + Log>(
         &mut self,
         rt: &R,
         state: &RunState,

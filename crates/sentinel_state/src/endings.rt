@@ -8,7 +8,7 @@ ghost use Rattle.ballot_law.specs.VotesHeard.{count_in, kept_at};
 ghost use Rattle.failover_states.specs.Calls.{recalled};
 ghost use Rattle.failover_states.specs.Failovers.{ended};
 ghost use Rattle.sentinel_rules.specs.declared.periods.TheConstants.{SWITCH_MS};
-ghost use Rattle.sentinel_rules.specs.Endings.{is_untold, is_well, is_outvoted, is_needless, is_stale, is_given, has_answered, may_answer, answers, awaited_answers, has_won, is_split_in, is_split, is_vain, given_up, is_overtaken, taken_up, let_go};
+ghost use Rattle.sentinel_rules.specs.Endings.{is_untold, is_switch, is_reached, ups, is_outvoted, is_most_down, is_contested, is_needless, is_stale, is_given, has_answered, may_answer, answers, awaited_answers, has_won, is_answered, is_passed, is_split_in, is_split, is_vain, given_up, is_overtaken, taken_up, let_go};
 ghost use Rattle.sentinel_rules.specs.Plans.{master_count};
 ghost use Rattle.sentinel_rules.specs.Profiles.{marked};
 ghost use Rattle.sentinel_rules.specs.States.{failover_of, is_awaiting, is_planned, master_of};
@@ -17,10 +17,12 @@ use crate::cores::Core;
 use crate::masters::Master;
 use crate::nodes::Plan;
 use crate::notices::MasterNotice;
+use crate::pauses::is_below;
 use crate::switches::{is_awaiting, is_electing, says_replica};
-use ballot_law::{HeardVote, RunId};
+use ballot_law::{HeardVote, RunId, clock_of};
+use down_detector::is_odown;
 use failover_states::FailoverState;
-use sentinel_rules::{Profile, SWITCH_MS};
+use sentinel_rules::{ASK_MS, Profile, SWITCH_MS};
 
 /// Whether no node was told anything yet in this state, so that the failover can end as if it hadn't begun.
 fn is_untold(stage: FailoverState) -> bool
@@ -85,34 +87,71 @@ impl Core {
         is_untold(stage) || is_awaiting(stage)
     }
 
-    /// Whether a master is up and connected, and doesn't say that it is a replica.
-    fn is_well(&self, plan: &Plan, m: u16, now: u64) -> bool
-        ensures { result ≡ is_well plan.now self.now m (clock now) }
+    /// Whether a failover is of a switch that was asked for, or made at the nodes.
+    fn is_switch(&self, plan: &Plan, m: u16) -> bool
+        ensures { result ≡ is_switch plan.now self.now m }
     {
-        let card_at = self.card_place(plan, m);
-        !(self.is_master_down(plan, m, now)
-            || self.is_lost(m, card_at)
-            || says_replica(self.info(m, card_at)))
+        self.is_planned(m) || says_replica(self.info(m, self.card_place(plan, m)))
     }
 
-    /// Whether more than half of the group have said since they were asked last that a master is up.
+    /// Whether a master is up and connected.
+    fn is_reached(&self, plan: &Plan, m: u16, now: u64) -> bool
+        ensures { result ≡ is_reached plan.now self.now m (clock now) }
+    {
+        !(self.is_master_down(plan, m, now) || self.is_lost(m, self.card_place(plan, m)))
+    }
+
+    /// How many of the others have said since they were asked last that a master is up.
+    fn ups(&self, m: u16) -> usize
+        ensures { result ≡ ups self.now m }
+    {
+        let since = self.ask_sent(m).unwrap_or(0);
+        match self.masters.get(m as usize) {
+            Some(master) => master.reports.up_since(since),
+            None => 0,
+        }
+    }
+
+    /// Whether more than half of the group have.
     #[tactic(auto, unfolding(sentinel_rules::specs::Endings::is_outvoted))]
     fn is_outvoted(&self, plan: &Plan, m: u16) -> bool
         ensures { result ≡ is_outvoted plan.now self.now m }
     {
-        let since = self.ask_sent(m).unwrap_or(0);
-        let up = match self.masters.get(m as usize) {
-            Some(master) => master.reports.up_since(since),
-            None => 0,
-        };
-        usize::from(plan.group_size()) / 2 < up
+        usize::from(plan.group_size()) / 2 < self.ups(m)
     }
 
     /// Whether a failover was begun since the master was down, and it is back, or is up for the others.
     fn is_needless(&self, plan: &Plan, m: u16, now: u64) -> bool
         ensures { result ≡ is_needless plan.now self.now m (clock now) }
     {
-        !self.is_planned(m) && (self.is_well(plan, m, now) || self.is_outvoted(plan, m))
+        !self.is_switch(plan, m) && (self.is_reached(plan, m, now) || self.is_outvoted(plan, m))
+    }
+
+    /// Whether more than half of the group find a master down, with this Sentinel.
+    fn is_most_down(&self, plan: &Plan, m: u16, now: u64) -> bool
+        requires { m < master_count plan.now }
+        ensures { result ≡ is_most_down plan.now self.now m (clock now) }
+    {
+        let majority = u32::from(plan.group_size()) / 2 + 1;
+        match self.masters.get(m as usize) {
+            Some(master) => is_odown(true, &master.reports, now, majority),
+            None => majority <= 1,
+        }
+    }
+
+    /// Whether votes don't count yet, since one says that the master is up, and less than a majority finds it down: by
+    /// the profile.
+    #[tactic(auto, unfolding(sentinel_rules::specs::Endings::is_contested))]
+    pub fn is_contested(&self, plan: &Plan, m: u16, now: u64) -> bool
+        requires { m < master_count plan.now }
+        ensures { result ≡ is_contested plan.now self.now m (clock now) }
+    {
+        match plan.profile() {
+            Profile::Strict => false,
+            Profile::Redis => {
+                !self.is_switch(plan, m) && 0 < self.ups(m) && !self.is_most_down(plan, m, now)
+            }
+        }
     }
 
     /// Whether a failover is of a switch that was asked for too long ago.
@@ -184,14 +223,29 @@ impl Core {
         self.book(m).elects(count, epoch, candidate, plan.need(m))
     }
 
-    /// Whether as many have answered as could elect, all have that are up, and no candidate has won.
+    /// Whether as many have answered as could elect, and all have that are up.
+    fn is_answered(&self, plan: &Plan, m: u16, now: u64, epoch: u64) -> bool
+        requires { m < master_count plan.now }
+        ensures { result ≡ is_answered plan.now self.now m (clock now) epoch }
+    {
+        plan.need(m) <= self.answers(plan, m, epoch) + 1
+            && self.awaited_answers(plan, m, now, epoch) == 0
+    }
+
+    /// Whether the current epoch is a later one, and the answers have had their time.
+    fn is_passed(&self, m: u16, now: u64, epoch: u64) -> bool
+        ensures { result ≡ is_passed self.now m (clock now) epoch }
+    {
+        epoch < self.kept().current && !is_below(self.ask_sent(m), clock_of(now), ASK_MS)
+    }
+
+    /// Whether no vote of this epoch is to come any more, and no candidate has won.
     #[tactic(auto, unfolding(sentinel_rules::specs::Endings::is_split_in))]
     fn is_split_in(&self, plan: &Plan, m: u16, now: u64, epoch: u64) -> bool
         requires { m < master_count plan.now }
         ensures { result ≡ is_split_in plan.now self.now m (clock now) epoch }
     {
-        plan.need(m) <= self.answers(plan, m, epoch) + 1
-            && self.awaited_answers(plan, m, now, epoch) == 0
+        (self.is_answered(plan, m, now, epoch) || self.is_passed(m, now, epoch))
             && !(self.has_won(plan, m, epoch, plan.me())
                 || self.has_won(plan, m, epoch, self.pick(plan, m, epoch)))
     }

@@ -75,7 +75,7 @@ fn is_half_below(at: Option<u64>, now: u64, timeout: u64) -> bool
 }
 
 /// Whether this was less than so many milliseconds ago.
-fn is_below(at: Option<u64>, now: u64, period: u64) -> bool
+pub(crate) fn is_below(at: Option<u64>, now: u64, period: u64) -> bool
     ensures { result ≡ is_below at now period }
 {
     match at {

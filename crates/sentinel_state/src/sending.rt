@@ -5,14 +5,16 @@ ghost use Rattle.ballot_law.specs.Clocks.{clock};
 ghost use Rattle.sentinel_state.specs.Nodes.Room.{added};
 ghost use Rattle.sentinel_rules.specs.Parts.{changed_from, frames_from};
 ghost use Rattle.sentinel_rules.specs.States.{card_place, master_of, with_master};
-ghost use Rattle.sentinel_rules.specs.Ticks.{node_after, node_frames, nodes_part, sending_of};
+ghost use Rattle.sentinel_rules.specs.Ticks.{awaits_votes, hello_period, node_after, node_frames, nodes_part, sending_of};
+ghost use Rattle.sentinel_rules.specs.Profiles.{is_electing};
+ghost use Rattle.std.specs.List.{list_any};
 
 use crate::cores::Core;
 use crate::masters::Master;
 use crate::nodes::{FrameList, Plan, Sending, ping_period, send_each_node};
-use crate::switches::place_followed;
+use crate::switches::{is_electing, place_followed};
 use ballot_law::clock_of;
-use sentinel_rules::ASSUMED_INFO;
+use sentinel_rules::{ASSUMED_INFO, HELLO_LATE_MS, HELLO_MS, Profile};
 
 impl Master {
     /// Sends each of its nodes what is due.
@@ -25,6 +27,25 @@ impl Master {
 }
 
 impl Core {
+    /// Whether an own campaign for any master awaits votes.
+    fn is_any_electing(&self) -> bool
+        ensures { result ≡ list_any (λ master. is_electing master.failover.state) self.now.masters }
+    {
+        self.masters
+            .iter()
+            .any(|master| is_electing(master.failover.state()))
+    }
+
+    /// How often a hello is sent: half as often while an own campaign awaits votes, by the profile.
+    fn hello_period(&self, plan: &Plan) -> u64
+        ensures { result ≡ hello_period plan.now self.now }
+    {
+        match plan.profile() {
+            Profile::Redis if self.is_any_electing() => HELLO_LATE_MS,
+            Profile::Strict | Profile::Redis => HELLO_MS,
+        }
+    }
+
     /// What decides which messages to a master's nodes are due; `card_at` is the place of the node that the
     /// configuration names.
     fn sending(&self, plan: &Plan, m: u16, now: u64, card_at: usize) -> Sending
@@ -44,6 +65,7 @@ impl Core {
             heir: self.heir(m),
             followed: place_followed(plan, m, info.master),
             looks: self.is_looking(plan, m, now),
+            hello_ms: self.hello_period(plan),
         }
     }
 
@@ -64,6 +86,13 @@ impl Core {
         if let Some(master) = self.masters.get_mut(m as usize) {
             master.send(plan, m, sending, frames);
         }
+    }
+
+    /// Whether votes are awaited, of the current epoch, in which the others are asked.
+    pub fn awaits_votes(&self, m: u16) -> bool
+        ensures { result ≡ awaits_votes self.now m }
+    {
+        is_electing(self.stage(m)) && self.campaign_epoch(m) == self.kept().current
     }
 
     /// When the other Sentinels were last asked whether the master is down.

@@ -284,6 +284,15 @@ impl<J: Which, C: Connects<J>> Connections<J, C> {
         self.wires.iter().flatten().any(|wire| wire.is_due(now))
     }
 
+    /// When the connections are to be kept next, at this time at the latest.
+    fn next_due(&self, latest: u64) -> u64 {
+        let mut due = latest;
+        for wire in self.wires.iter().flatten() {
+            due = due.min(wire.next_due().unwrap_or(latest));
+        }
+        due
+    }
+
     /// Waits until the system tells of a connection, or so many milliseconds; not at all where one may have more to
     /// read. The error is the system's, where it tells of no connection any more.
     fn wait(&mut self, millis: u64) -> io::Result<()> {
@@ -460,6 +469,7 @@ impl<J: Which, C: Connects<J>> Connections<J, C> {
             self.keep_all(rt, now);
             pace.tick_due = now.saturating_add(self.keep_ms);
         }
+        pace.tick_due = self.next_due(pace.tick_due);
         pace.turn(now);
         state.turned.store(now, Ordering::SeqCst);
         thread::sleep(rt, Duration::from_millis(REST_MS));

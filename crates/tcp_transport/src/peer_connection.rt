@@ -26,13 +26,23 @@ use std::sync::Wait;
 /// How many reads a connection makes before the next one has its turn.
 const READS_MAX: u32 = 16;
 
+/// How long it is between two times at which the last hello goes out once more, in milliseconds.
+const HELLO_EACH_MS: u64 = 30;
+
+/// When the last hello goes out once more next, by readings of the clock in milliseconds, and from when on no more.
+#[derive(Clone, Copy)]
+struct Again {
+    at: u64,
+    until: u64,
+}
+
 /// A connection to a node, by the sockets that `C` makes. `goes_on` is whether it may have more to read, `is_ending`
 /// whether the system told of its end, `look_at` when it is to be asked what came of an order, `ended` why it was
 /// closed last though it could be read, `asides` what its node told beside events, and `shut_until` until when it stays
 /// closed, since too much came on it, `is_lost` whether it was told to be lost since it was open last, `is_barred`
 /// whether it was given up for want of a password, which wasn't told yet, `rows` what it asks another Sentinel for its
 /// rows, `acks_until` until when its node is asked to acknowledge its master's stream, `hello` the last hello that went
-/// out on it, `hello_at` when that goes out once more, `mute_until` until when no hello goes out on it, and `abort` the
+/// out on it, `again` when that goes out once more, `mute_until` until when no hello goes out on it, and `abort` the
 /// end of a switch, which goes out once it is open anew.
 #[derive(Drop)]
 pub(crate) struct PeerConnection<J: Which, C: Connects<J>> {
@@ -49,10 +59,20 @@ pub(crate) struct PeerConnection<J: Which, C: Connects<J>> {
     rows: RowLook,
     acks_until: u64,
     hello: Option<Outgoing<J>>,
-    hello_at: Option<u64>,
+    again: Option<Again>,
     mute_until: u64,
     abort: Option<Outgoing<J>>,
     alloc: Global,
+}
+
+impl Again {
+    /// The next time after this one, where there is one.
+    fn after(now: u64, until: u64) -> Option<Again> {
+        (now < until).then_some(Again {
+            at: now.saturating_add(HELLO_EACH_MS),
+            until,
+        })
+    }
 }
 
 /// Hands the events of what was heard on to the Sentinel, in their order, which it may take, and keeps the rest.
@@ -106,7 +126,7 @@ impl<J: Which, C: Connects<J>> PeerConnection<J, C> {
             rows: RowLook::new(),
             acks_until: 0,
             hello: None,
-            hello_at: None,
+            again: None,
             mute_until: 0,
             abort: None,
             alloc,
@@ -267,12 +287,14 @@ impl<J: Which, C: Connects<J>> PeerConnection<J, C> {
         }
     }
 
-    /// Puts out the last hello once more, where that is due. A fault has closed it.
+    /// Puts out the last hello once more, where that is due: again and again for `HELLO_AGAIN_MS` after an order, since
+    /// nobody can tell when those who are to hear it are back. A fault has closed it.
     fn greet_again(&mut self, now: u64) {
-        match self.hello_at {
-            Some(at) if at <= now => self.hello_at = None,
+        let until = match self.again {
+            Some(again) if again.at <= now => again.until,
             _ => return,
-        }
+        };
+        self.again = Again::after(now, until);
         if now < self.mute_until {
             return;
         }
@@ -280,6 +302,16 @@ impl<J: Which, C: Connects<J>> PeerConnection<J, C> {
             if self.takes(hello.message().target) {
                 let _ = self.link.ask(&hello, now);
             }
+            self.hello = Some(hello);
+        }
+    }
+
+    /// When it is to ask or say something once more next.
+    pub(crate) fn next_due(&self) -> Option<u64> {
+        match (self.look_at, self.again) {
+            (Some(look), Some(again)) => Some(look.min(again.at)),
+            (look, None) => look,
+            (None, Some(again)) => Some(again.at),
         }
     }
 
@@ -366,7 +398,7 @@ impl<J: Which, C: Connects<J>> PeerConnection<J, C> {
         if let Body::ReplicaOf(_) = message.body {
             let _ = self.link.look(now);
             self.look_at = Some(now.saturating_add(LOOK_MS));
-            self.hello_at = Some(now.saturating_add(HELLO_AGAIN_MS));
+            self.again = Again::after(now, now.saturating_add(HELLO_AGAIN_MS));
         }
         self.send_out(now);
     }

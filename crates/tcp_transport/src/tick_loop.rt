@@ -12,7 +12,10 @@ use crate::far_hellos::is_lost;
 use crate::hello_notes::{Hearer, HelloNotes};
 use crate::replica_notes::ReplicaNotes;
 use ballot_law::{Event, STEP_MS, Text};
-use links::{CATCH_UP_MS, TickSchedule, WAIT_MAX_MS, is_gap, pause_of, turn_of, without_names};
+use links::{
+    CATCH_UP_MS, HURRY_MS, SLOT_MAX_MS, TickSchedule, WAIT_MAX_MS, is_gap, pause_of, turn_of,
+    without_names,
+};
 use log::Log;
 use sentinel_conf::ConfStore;
 use sentinel_runtime::{Outlet, RunFault, RunningSentinel, ThreadSeat, Ticker, Which, hear};
@@ -34,7 +37,7 @@ const LATER_MAX: usize = 4_096;
 
 /// When a Sentinel ticks, and what its ticks showed. One thread has them, with its end of the connections.
 /// `stood_still` is whether it stood still since its last ticks, and `later` has what it hears only after the next
-/// ones, oldest first; `has_ticked` is whether these were since.
+/// ones, oldest first; `has_ticked` is whether these were since. `epoch` is the current one when it was last looked at.
 #[derive(Drop)]
 pub struct TickLoop<J: Which> {
     far: SentinelEnd<J>,
@@ -45,6 +48,7 @@ pub struct TickLoop<J: Which> {
     replicas: ReplicaNotes,
     later: VecDeque<Hearing<J>>,
     has_ticked: bool,
+    epoch: u64,
 }
 
 /// The turns of a Sentinel that this thread has it take, by its own seat.
@@ -83,6 +87,17 @@ fn found_down(event: &Event) -> Option<u16> {
         } => Some(*master),
         _ => None,
     }
+}
+
+/// Whether another Sentinel tells a vote, which may be the one that elects.
+fn is_vote(event: &Event) -> bool {
+    matches!(
+        event,
+        Event::Answered {
+            leader: Some(_),
+            ..
+        }
+    )
 }
 
 /// What was heard, without the name by which a replica may know its master; as it is where there is no memory.
@@ -154,13 +169,32 @@ impl<J: Which> TickLoop<J> {
             replicas: ReplicaNotes::new(alloc),
             later: VecDeque::new(alloc),
             has_ticked: false,
+            epoch: member.known_epoch().unwrap_or(0),
         }
     }
 
+    /// Has the ticks come at once after a vote, and within `HURRY_MS` while a failover of its own is on its way. Else
+    /// it holds them back where a campaign has come near, or where another Sentinel campaigns.
+    fn pace_ticks<S: ConfStore, R: Clock>(&mut self, turns: &mut Turns<'_, R, J, S>, voted: bool) {
+        let number = turns.seat.take_nearness();
+        let epoch = turns.member.known_epoch().unwrap_or(0);
+        let has_risen = self.epoch < epoch;
+        self.epoch = epoch;
+        if turns.seat.is_switching() {
+            let within = if voted { 0 } else { HURRY_MS };
+            self.pace.hurry(turns.now(), within);
+            return;
+        }
+        if has_risen {
+            self.pace.hold(turns.now(), SLOT_MAX_MS);
+        }
+        self.hold(turns, number);
+    }
+
     /// Holds the ticks back where a campaign has come near, until the Sentinel has its turn: that goes by its place,
-    /// and moves on with each configuration of the master.
-    fn hold<S: ConfStore, R: Clock>(&mut self, turns: &mut Turns<'_, R, J, S>) {
-        if let Some(number) = turns.seat.take_nearness() {
+    /// and moves on with the configurations of the masters.
+    fn hold<S: ConfStore, R: Clock>(&mut self, turns: &Turns<'_, R, J, S>, number: Option<u64>) {
+        if let Some(number) = number {
             let roster = turns.member.roster();
             roster.is_made();
             let count = (roster.sentinels().len() as u64).max(1);
@@ -193,6 +227,7 @@ impl<J: Which> TickLoop<J> {
         if let Some(master) = found_down(&event) {
             turns.seat.look_ahead(master, self.pace.tick_due);
         }
+        let voted = is_vote(&event);
         let by = hearer(turns.member, turns.now());
         self.note_heard(&turns.member.noting(turns.rt), by, &event);
         let event = without_name::<J>(self.far.alloc(), event);
@@ -208,7 +243,7 @@ impl<J: Which> TickLoop<J> {
         if self.hellos.has_heard(turns.member.roster().masters().len()) {
             turns.state.heard.store(1, Ordering::SeqCst);
         }
-        self.hold(turns);
+        self.pace_ticks(turns, voted);
         goes_on
     }
 
@@ -302,24 +337,40 @@ impl<J: Which> TickLoop<J> {
         true
     }
 
+    /// Ticks each master, and hears between two of them what has come in, such as requests for votes that a store has
+    /// held up: whether the Sentinel goes on.
+    fn tick_each<S: ConfStore, R: Wait + Clock + Log>(
+        &mut self,
+        turns: &mut Turns<'_, R, J, S>,
+    ) -> bool {
+        for master in 0..turns.member.masters() {
+            if master != 0 && !self.hear_all(turns, 0) {
+                return false;
+            }
+            let (rt, run, member) = (turns.rt, &turns.state.run, turns.member);
+            let mut outlet = self.far.outlet(rt);
+            let seat = &mut *turns.seat;
+            if !self
+                .ticker
+                .tick_one(rt, run, member, seat, &mut outlet, master)
+            {
+                return false;
+            }
+        }
+        true
+    }
+
     /// Ticks each master, and plans the next ticks: whether the Sentinel goes on.
     fn tick<S: ConfStore, R: Wait + Clock + Log>(
         &mut self,
         turns: &mut Turns<'_, R, J, S>,
     ) -> bool {
         let (rt, member, began) = (turns.rt, turns.member, turns.now());
-        let mut outlet = self.far.outlet(rt);
-        let run = &turns.state.run;
-        let goes_on = self
-            .ticker
-            .tick_all(rt, run, member, turns.seat, &mut outlet);
+        self.pace.plan_tick(began, turns.lot());
+        let goes_on = self.tick_each(turns);
         self.stood_still = false;
         self.has_ticked = true;
-        self.pace.plan_tick(began, turns.lot());
-        if turns.seat.is_switching() {
-            self.pace.hurry(began);
-        }
-        self.hold(turns);
+        self.pace_ticks(turns, false);
         let now = turns.now();
         if self.hellos.has_rival(now) {
             self.pace.tick_due = began.saturating_add(APART_MS);

@@ -5,7 +5,7 @@ use Rattle.ballot_law.specs.Orders.{same_bytes}
 use Rattle.ballot_law.specs.Words.{some_if, name, number_within, lower}
 use Rattle.tokens.specs.Quotes.{is_comment, redis_words}
 use Rattle.sentinel_conf.specs.declared.watch.faults.WatchKind.{WatchKind}
-use Rattle.sentinel_conf.specs.declared.watch.faults.WatchKind.TheVariants.{BadDirective, BadName, BadNumber, BadSeconds, BadMillis, BadBind, BadYesNo, BadQuotes, NamesOfHosts, AclFile, Include, TlsPort, TlsReplication, TlsSetting, RenamedCommand, UnknownDirective, ByteOrderMark}
+use Rattle.sentinel_conf.specs.declared.watch.faults.WatchKind.TheVariants.{BadDirective, BadName, BadNumber, BadSeconds, BadMillis, ShortDownAfter, BadBind, BadYesNo, BadQuotes, NamesOfHosts, AclFile, Include, TlsPort, TlsReplication, TlsSetting, RenamedCommand, UnknownDirective, ByteOrderMark}
 use Rattle.sentinel_conf.specs.declared.watch.settings.WatchSetting.{WatchSetting}
 use Rattle.sentinel_conf.specs.declared.watch.settings.WatchSetting.TheVariants.{Bind, NodePass, NodeUser, OwnPass, PeerPass, PeerUser, Reboot, MaxClients, Timeout, ProtectedMode, DefaultUser}
 use Rattle.sentinel_conf.specs.declared.watch.binds.Bind.{Bind as BindAt}
@@ -60,6 +60,15 @@ abbrev pub reboot_line : List (List ℕ) → WatchLine
 reboot_line (n ∷ ms ∷ []) = given_or BadMillis (name n) (λ name. given_or BadMillis (number_within 0 4294967295 ms) (λ ms. line.Says (Reboot name ms)))
 reboot_line _ = line.Faulty BadMillis
 
+-- a time that is too short is refused; what else may be wrong with its words is the fault of any file
+abbrev pub too_short : Option ℕ → WatchLine
+too_short None = line.Other
+too_short (Some ms) = line.Faulty ShortDownAfter
+
+abbrev pub down_after_line : List (List ℕ) → WatchLine
+down_after_line (n ∷ ms ∷ []) = too_short (number_within 0 99 ms)
+down_after_line _ = line.Other
+
 abbrev pub max_clients_line : List (List ℕ) → WatchLine
 max_clients_line = one (λ n. given_or BadNumber (number_within 1 4294967295 n) (λ count. line.Says (MaxClients count)))
 
@@ -89,6 +98,14 @@ named_or other word (directive ∷ directives) args =
 abbrev pub rename_line : List (List ℕ) → WatchLine
 rename_line args = line.Faulty RenamedCommand
 
+-- those that are refused but where they change nothing
+abbrev pub sentinel_guards : List (List ℕ × (List (List ℕ) → WatchLine))
+sentinel_guards =
+    (codes "down-after-milliseconds", down_after_line)
+    ∷ (codes "resolve-hostnames", resolve_line)
+    ∷ (codes "rename-command", rename_line)
+    ∷ []
+
 abbrev pub sentinel_directives : List (List ℕ × (List (List ℕ) → WatchLine))
 sentinel_directives =
     (codes "auth-pass", node_pass_line)
@@ -96,9 +113,7 @@ sentinel_directives =
     ∷ (codes "sentinel-pass", peer_pass_line)
     ∷ (codes "sentinel-user", peer_user_line)
     ∷ (codes "master-reboot-down-after-period", reboot_line)
-    ∷ (codes "resolve-hostnames", resolve_line)
-    ∷ (codes "rename-command", rename_line)
-    ∷ []
+    ∷ sentinel_guards
 
 -- any other says nothing to `watch` alone, where a Redis knows it
 abbrev pub other_sentinel : List ℕ → WatchLine

@@ -1,7 +1,7 @@
 //! What a line says, by its directive.
 
 ghost use Rattle.std.specs.Prelude.{◌≡◌, IfOk};
-ghost use Rattle.sentinel_conf.specs.Watch.WatchLines.{yes_or_no, bind_line, node_pass_line, node_user_line, own_pass_line, peer_pass_line, peer_user_line, reboot_line, max_clients_line, timeout_line, protected_line, resolved, resolve_line, other_sentinel, sentinel_named, sentinel_line, named_or, other_directive, first_directives, has_mark, line_of_words, watch_line};
+ghost use Rattle.sentinel_conf.specs.Watch.WatchLines.{yes_or_no, bind_line, node_pass_line, node_user_line, own_pass_line, peer_pass_line, peer_user_line, reboot_line, down_after_line, max_clients_line, timeout_line, protected_line, resolved, resolve_line, other_sentinel, sentinel_guards, sentinel_named, sentinel_line, named_or, other_directive, first_directives, has_mark, line_of_words, watch_line};
 
 use crate::watch::binds::bound;
 use crate::watch::faults::WatchKind;
@@ -17,6 +17,9 @@ const COUNT_MAX: u64 = 4_294_967_295;
 
 /// The greatest number of seconds that a Redis takes.
 const SECONDS_MAX: u64 = 2_147_483_647;
+
+/// The least `down-after-milliseconds` of a file for `watch`, in milliseconds.
+pub const DOWN_AFTER_LEAST: u64 = 100;
 
 /// The byte order mark, with which some editors begin a file.
 const MARK: &[u8] = b"\xEF\xBB\xBF";
@@ -134,6 +137,19 @@ fn reboot_line(args: &[Text]) -> WatchLine
     }
 }
 
+/// `sentinel down-after-milliseconds <name> <milliseconds>`, of which the number alone is looked at.
+fn down_after_line(args: &[Text]) -> WatchLine
+    ensures { result ≡ down_after_line args.now }
+{
+    let [_, ms] = args else {
+        return WatchLine::Other;
+    };
+    match number_of(ms.as_slice(), 0, DOWN_AFTER_LEAST - 1) {
+        Some(_) => WatchLine::Faulty(WatchKind::ShortDownAfter),
+        None => WatchLine::Other,
+    }
+}
+
 /// `maxclients <number>`.
 fn max_clients_line(args: &[Text]) -> WatchLine
     ensures { result ≡ max_clients_line args.now }
@@ -198,6 +214,23 @@ fn other_sentinel(alloc: Global, name: &Text) -> Result<WatchLine, NoMemory>
     Ok(WatchLine::Faulty(WatchKind::UnknownDirective))
 }
 
+/// The line of a `sentinel` directive of this name, where it is one of those that are refused but where they change
+/// nothing.
+fn sentinel_guard(alloc: Global, name: &Text, args: &[Text]) -> Result<WatchLine, NoMemory>
+    ensures { IfOk result (λ line. line ≡ named_or (other_sentinel name.now) name.now sentinel_guards args.now) }
+{
+    if is_named(name, b"down-after-milliseconds") {
+        return Ok(down_after_line(args));
+    }
+    if is_named(name, b"resolve-hostnames") {
+        return Ok(resolve_line(args));
+    }
+    if is_named(name, b"rename-command") {
+        return Ok(WatchLine::Faulty(WatchKind::RenamedCommand));
+    }
+    other_sentinel(alloc, name)
+}
+
 /// The line of a `sentinel` directive of this name.
 fn sentinel_named(alloc: Global, name: &Text, args: &[Text]) -> Result<WatchLine, NoMemory>
     ensures { IfOk result (λ line. line ≡ sentinel_named name.now args.now) }
@@ -217,13 +250,7 @@ fn sentinel_named(alloc: Global, name: &Text, args: &[Text]) -> Result<WatchLine
     if is_named(name, b"master-reboot-down-after-period") {
         return Ok(reboot_line(args));
     }
-    if is_named(name, b"resolve-hostnames") {
-        return Ok(resolve_line(args));
-    }
-    if is_named(name, b"rename-command") {
-        return Ok(WatchLine::Faulty(WatchKind::RenamedCommand));
-    }
-    other_sentinel(alloc, name)
+    sentinel_guard(alloc, name, args)
 }
 
 /// The line whose first word is `sentinel`, by the words after it.

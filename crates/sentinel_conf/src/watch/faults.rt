@@ -26,6 +26,10 @@ pub enum WatchKind {
     /// to 4,294,967,295.
     #[error("BadMillis: write the name of a master, and for how many milliseconds it may load its data once it was started again, one number from 0, which is for ever, to 4294967295")]
     BadMillis,
+    /// The number of a line `sentinel down-after-milliseconds` is below `DOWN_AFTER_LEAST`: PINGs go out each 20 ms at
+    /// most, so a node would be down while its answers are on their way.
+    #[error("ShortDownAfter: a node that is well would be taken to be down between two PINGs: write 100 milliseconds or more")]
+    ShortDownAfter,
     /// A line `bind` has no word, more than `IPS_MAX` words, one that is no ip, or no ip at all.
     #[error("BadBind: write the ips at which this Sentinel listens, as `bind 10.0.0.1 127.0.0.1`, or no such line")]
     BadBind,

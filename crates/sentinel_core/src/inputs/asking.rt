@@ -5,12 +5,13 @@ ghost use Rattle.ballot_law.specs.declared.rosters.TheConstants.{SENTINELS_MAX};
 ghost use Rattle.ballot_law.specs.Clocks.{clock};
 ghost use Rattle.sentinel_state.specs.Nodes.Room.{added};
 ghost use Rattle.sentinel_rules.specs.Parts.{frames_from};
-ghost use Rattle.sentinel_rules.specs.States.{is_master_down, master_of};
-ghost use Rattle.sentinel_rules.specs.Ticks.{is_ask_due, ask_candidate, ask_frames, ask_part};
+ghost use Rattle.sentinel_rules.specs.States.{is_failing_over, is_master_down, master_of};
+ghost use Rattle.sentinel_rules.specs.Profiles.{by_profile};
+ghost use Rattle.sentinel_rules.specs.Ticks.{is_ask_due, awaits_votes, ask_candidate, ask_frames, ask_part};
 ghost use Rattle.sentinel_state.specs.Parts.{with_part};
 
 use ballot_law::{RunId, clock_of};
-use sentinel_rules::{ASK_MS, Frame};
+use sentinel_rules::{ASK_MS, Frame, Profile};
 use sentinel_state::{Core, FrameList, Peer, Plan, State};
 
 /// Asks each other Sentinel whether a master is down, and for its vote where there is a candidate.
@@ -40,11 +41,21 @@ fn is_ask_due(core: &Core, m: u16, now: u64, started: bool) -> bool
     }
 }
 
-/// Whose vote is asked for: the own run id while a failover runs.
+/// Whether the others are asked for their votes: while a failover runs, by the profile while votes are awaited.
+fn asks_votes(state: &State, m: u16) -> bool
+    ensures { result ≡ by_profile state.now.plan.profile (is_failing_over state.now.core m) (awaits_votes state.now.core m) }
+{
+    match state.plan.profile() {
+        Profile::Strict => state.core.is_failing_over(m),
+        Profile::Redis => state.core.awaits_votes(m),
+    }
+}
+
+/// Whose vote is asked for: the own run id, or nobody's.
 fn ask_candidate(state: &State, m: u16) -> Option<RunId>
     ensures { result ≡ ask_candidate state.now.plan state.now.core m }
 {
-    if state.core.is_failing_over(m) {
+    if asks_votes(state, m) {
         Some(state.plan.me())
     } else {
         None

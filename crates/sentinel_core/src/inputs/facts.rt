@@ -5,11 +5,11 @@ ghost use Rattle.std.specs.List.{list_all};
 ghost use Rattle.ballot_law.specs.declared.rosters.TheConstants.{NODES_MAX};
 ghost use Rattle.ballot_law.specs.Clocks.{clock};
 ghost use Rattle.ballot_law.specs.Watches.{down_since_of};
-ghost use Rattle.sentinel_rules.specs.Plans.{me, nodes_of, settings_at};
+ghost use Rattle.sentinel_rules.specs.Plans.{master_count, me, nodes_of, settings_at};
 ghost use Rattle.sentinel_rules.specs.States.{card_place, is_at, is_node_down, node_of};
 ghost use Rattle.replica_choice.specs.Choices.{choice_of};
 ghost use Rattle.sentinel_rules.specs.Answers.{may_take_over, has_heir};
-ghost use Rattle.sentinel_rules.specs.Ticks.{candidate_of, candidates_of, willing_of, willing_ones, best_willing, at_places, limits_of, best_told, best_place, best_of, pick_of, count_of, is_all_down, is_own_pause};
+ghost use Rattle.sentinel_rules.specs.Ticks.{candidate_of, candidates_of, willing_of, willing_ones, best_willing, at_places, limits_of, best_told, best_place, best_of, pick_of, counted, is_all_down, is_own_pause};
 ghost use Rattle.sentinel_rules.specs.Profiles.{link_at, lesser, least_link_ms, down_for, master_down_ms};
 ghost use Rattle.sentinel_core.specs.Inputs.Rows.{looks_at_votes, looks_at_best, looks_at_nodes};
 
@@ -403,12 +403,25 @@ pub(crate) fn pick_for(state: &State, m: u16, epoch: u64, stage: FailoverState) 
     }
 }
 
-/// How many votes heard are for this Sentinel, where the rows of this state look at it.
-pub(crate) fn count_for(state: &State, m: u16, epoch: u64, stage: FailoverState) -> u32
-    ensures { result ≡ (if looks_at_votes stage then count_of state.now.plan state.now.core m epoch else 0) }
+/// The votes heard that count for this Sentinel.
+fn counted(state: &State, m: u16, now: u64, epoch: u64) -> u32
+    requires { m < master_count state.now.plan }
+    ensures { result ≡ counted state.now.plan state.now.core m (clock now) epoch }
+{
+    if state.core.is_contested(&state.plan, m, now) {
+        0
+    } else {
+        state.core.count(&state.plan, m, epoch)
+    }
+}
+
+/// The votes heard that count for this Sentinel, where the rows of this state look at it.
+pub(crate) fn count_for(state: &State, m: u16, now: u64, epoch: u64, stage: FailoverState) -> u32
+    requires { m < master_count state.now.plan }
+    ensures { result ≡ (if looks_at_votes stage then counted state.now.plan state.now.core m (clock now) epoch else 0) }
 {
     if looks_at_votes(stage) {
-        state.core.count(&state.plan, m, epoch)
+        counted(state, m, now, epoch)
     } else {
         0
     }

@@ -192,7 +192,7 @@ fn facts<'a>(
         me: state.plan.me(),
         need: state.plan.need(m),
         pick: pick_for(state, m, epoch, stage),
-        count: count_for(state, m, epoch, stage),
+        count: count_for(state, m, now, epoch, stage),
         best: best_for(state, m, now, stage),
         card_place: card_place_for(state, m, stage),
         down,

@@ -105,8 +105,8 @@ fn keep_info(core: &mut Core, m: u16, k: u16, now: u64, info: &Info)
     core.set_node(m, k as usize, node);
 }
 
-/// After a switch that a client asked for has the clients of both nodes sent away, so that they ask for the master
-/// anew.
+/// By the profile has the new master publish a hello, and after a switch that a client asked for the clients of both
+/// nodes sent away, so that they ask for the master anew.
 #[tactic(auto, using(sentinel_state::proofs::NodesLemmas::RoomLemmas::added_both))]
 fn close_clients(state: &mut State, m: u16, heir: usize, old: usize, planned: bool)
     requires { (heir ≤ NODES_MAX) × (old ≤ NODES_MAX) }
@@ -119,6 +119,11 @@ fn close_clients(state: &mut State, m: u16, heir: usize, old: usize, planned: bo
         .core
         .note_replica_if(planned, m, old as u16, ReplicaNotice::Converted);
     let heir = state.plan.node_name(m, heir);
+    let hello = Frame::HelloTo {
+        target: heir,
+        master: m,
+    };
+    state.frames.push_if(state.plan.profile().is_redis(), hello);
     state.frames.push_if(planned, Frame::PromoteTo(heir));
     let target = state.plan.node_name(m, old);
     state

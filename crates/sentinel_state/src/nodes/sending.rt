@@ -15,7 +15,7 @@ use crate::nodes::node::Node;
 use crate::nodes::peers::Peer;
 use crate::nodes::plans::Plan;
 use ballot_law::{Info, NodeName};
-use sentinel_rules::{BUSY_INFO_MS, Frame, HEIR_INFO_MS, HELLO_MS, INFO_MS, PING_MS};
+use sentinel_rules::{BUSY_INFO_MS, Frame, HEIR_INFO_MS, INFO_MS, PING_MS};
 use std::marker::Model;
 
 /// Whether what was last sent at that moment is to be sent again: it never was, or at a later reading, or so long ago.
@@ -91,6 +91,8 @@ pub struct Sending {
     pub followed: Option<usize>,
     /// Whether these two are looked at as often as the replica to which the master was told to hand over.
     pub looks: bool,
+    /// How often a hello is sent, in milliseconds.
+    pub hello_ms: u64,
 }
 
 impl Model for Sending {
@@ -106,6 +108,7 @@ impl Model for Sending {
       heir = s.heir;
       followed = s.followed;
       looks = s.looks;
+      hello_ms = s.hello_ms;
     } };
 
     ghost inverse = { λ s. record {
@@ -116,6 +119,7 @@ impl Model for Sending {
       heir = s.heir;
       followed = s.followed;
       looks = s.looks;
+      hello_ms = s.hello_ms;
     } };
 }
 
@@ -168,7 +172,7 @@ impl Node {
     }
 
     /// Whether INFO is due of the node at a place: each 10 seconds, each second of a replica whose master is down or
-    /// fails over, or whose link was down, and ten times a second of the one to which the master hands over, and of a
+    /// fails over, or whose link was down, and each 20 ms of the one to which the master hands over, and of a
     /// master that may do so and the node that it follows then.
     fn is_info_due(&self, sending: Sending, k: usize) -> bool
         ensures { result ≡ is_info_due sending k self.now }
@@ -184,11 +188,11 @@ impl Node {
         )
     }
 
-    /// Whether a hello is due: each 2 seconds.
+    /// Whether a hello is due.
     fn is_hello_due(&self, sending: Sending) -> bool
         ensures { result ≡ is_hello_due sending self.now }
     {
-        is_due(self.hello_sent, sending.now, HELLO_MS)
+        is_due(self.hello_sent, sending.now, sending.hello_ms)
     }
 
     /// Sends the node at a place of a master what is due: PING, INFO, hello.
