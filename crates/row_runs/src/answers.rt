@@ -5,14 +5,13 @@ ghost use Rattle.std.specs.Prelude.{◌≤◌, vec_capacity};
 use crate::commands::value_of;
 use crate::told::{Told, Unplayed};
 use crate::words::Words;
-use ballot_law::{ANSWER_MAX, Addr, DataRole};
+use ballot_law::{ANSWER_MAX, DataRole};
 use port_answers::{
     AnswerText, ContactRow, FailoverStage, InfoSection, LinkRow, MasterLine, MasterRow, ReplicaRow,
     SaidRow, SentinelRow,
 };
 use resp2::command_of;
 use std::alloc::Global;
-use tokens::address_of;
 
 /// What is told of no connection, and of no INFO.
 const NO_CONTACT: ContactRow = ContactRow {
@@ -72,16 +71,6 @@ fn said(words: &mut Words<'_>) -> SaidRow {
         },
         role_ms: words.number(),
     }
-}
-
-/// The address that the next two words are, or none for `?` and another word.
-fn known_address(words: &mut Words<'_>) -> Option<Addr> {
-    let (ip, port) = (words.bytes(), words.bytes());
-    if ip == b"?".as_slice() {
-        return None;
-    }
-    let addr = address_of(ip, port);
-    words.or(addr.map(Some), None)
 }
 
 /// The stage of a failover that the next word names.
@@ -161,7 +150,7 @@ fn replica(words: &mut Words<'_>, is_of_redis: bool) -> ReplicaRow {
         row.link = LinkRow {
             down_ms: words.number(),
             up: !state(words).0,
-            master: known_address(words),
+            master: words.maybe_address(),
             announced: words.bytes() == b"1".as_slice(),
         };
     }

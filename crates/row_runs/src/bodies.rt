@@ -25,35 +25,6 @@ fn epoch(words: &mut Words<'_>) -> Result<u64, Unplayed>
     Ok(epoch)
 }
 
-/// A question about a master: its number and address, the epoch, and the candidate.
-fn ask(words: &mut Words<'_>) -> Result<Body, Unplayed>
-    ensures within { IfOk result IsWithinBody }
-    ensures epochs { IfOk result AnswersWithin }
-    ensures writable { IfOk result IsWritable }
-{
-    Ok(Body::Ask {
-        master: words.number_16(),
-        addr: words.addr(),
-        epoch: epoch(words)?,
-        candidate: words.maybe_id(),
-    })
-}
-
-/// The answer to it: the number and address of the master, whether it is down, the vote and its epoch.
-fn answer(words: &mut Words<'_>) -> Result<Body, Unplayed>
-    ensures within { IfOk result IsWithinBody }
-    ensures epochs { IfOk result AnswersWithin }
-    ensures writable { IfOk result IsWritable }
-{
-    Ok(Body::Answer {
-        master: words.number_16(),
-        addr: words.addr(),
-        down: words.says("down", "up"),
-        leader: words.maybe_id(),
-        epoch: epoch(words)?,
-    })
-}
-
 /// The answer to a PING, which begins with `+` or `-`.
 fn ping_text(word: &[u8]) -> Result<Body, Unplayed>
     ensures within { IfOk result IsWithinBody }
@@ -70,18 +41,6 @@ fn ping_text(word: &[u8]) -> Result<Body, Unplayed>
         return Err(Unplayed::OutOfRange);
     }
     Ok(Body::PingText { is_error, text })
-}
-
-/// The INFO of these bytes.
-fn info(bytes: &[u8]) -> Result<Body, Unplayed>
-    ensures within { IfOk result IsWithinBody }
-    ensures epochs { IfOk result AnswersWithin }
-    ensures writable { IfOk result IsWritable }
-{
-    match read_info(bytes) {
-        Ok(info) if infos::can_be_written(&info) => Ok(Body::InfoText(info)),
-        _ => Err(Unplayed::WrongWords),
-    }
 }
 
 /// The hello of these bytes.
@@ -153,12 +112,26 @@ pub(crate) fn body(alloc: Global, words: &mut Words<'_>) -> Result<Body, Unplaye
     ensures writable { IfOk result IsWritable }
 {
     match words.text() {
-        "Ask" => ask(words),
-        "Answer" => answer(words),
+        "Ask" => Ok(Body::Ask {
+            master: words.number_16(),
+            addr: words.addr(),
+            epoch: epoch(words)?,
+            candidate: words.maybe_id(),
+        }),
+        "Answer" => Ok(Body::Answer {
+            master: words.number_16(),
+            addr: words.addr(),
+            down: words.says("down", "up"),
+            leader: words.maybe_id(),
+            epoch: epoch(words)?,
+        }),
         "Ping" => Ok(Body::Ping),
         "PingText" => ping_text(words.bytes()),
         "InfoAsk" => Ok(Body::InfoAsk),
-        "InfoText" => info(words.bytes()),
+        "InfoText" => match read_info(words.bytes()) {
+            Ok(info) if infos::can_be_written(&info) => Ok(Body::InfoText(info)),
+            _ => Err(Unplayed::WrongWords),
+        },
         "Publish" => Ok(Body::Publish(hello(words.bytes())?)),
         "HelloText" => Ok(Body::HelloText(hello(words.bytes())?)),
         "ReplicaOf" => Ok(Body::ReplicaOf(words.maybe_addr())),

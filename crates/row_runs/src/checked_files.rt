@@ -12,7 +12,6 @@ use conf_check::{
 };
 use std::alloc::Global;
 use std::str;
-use tokens::ip_of;
 
 /// The name of a file that is told of.
 const PATH: &str = "a.conf";
@@ -100,23 +99,6 @@ fn replica(words: &mut Words<'_>) -> Result<ReplicaOf, Unplayed> {
     })
 }
 
-/// The ip that the next word spells.
-fn ip(words: &mut Words<'_>) -> u32 {
-    let ip = ip_of(words.bytes());
-    words.or(ip, 0)
-}
-
-/// The setting of the name that the next word spells.
-fn setting(words: &mut Words<'_>) -> Result<MasterSetting, Unplayed> {
-    match words.bytes() {
-        b"quorum" => Ok(MasterSetting::Quorum),
-        b"down_after" => Ok(MasterSetting::DownAfter),
-        b"failover_timeout" => Ok(MasterSetting::FailoverTimeout),
-        b"parallel_syncs" => Ok(MasterSetting::ParallelSyncs),
-        _ => Err(Unplayed::WrongWords),
-    }
-}
-
 /// The change of the kind of the first of these four words; some kinds don't need all of the others.
 fn change(alloc: Global, words: &mut Words<'_>) -> Result<Change, Unplayed> {
     match words.bytes() {
@@ -136,13 +118,19 @@ fn change(alloc: Global, words: &mut Words<'_>) -> Result<Change, Unplayed> {
         })),
         b"RemoveSentinel" => Ok(Change::RemoveSentinel(words.id())),
         b"ReplaceHost" => Ok(Change::ReplaceHost(Replacement {
-            old: ip(words),
-            new: ip(words),
+            old: words.ip(),
+            new: words.ip(),
             id: words.id(),
         })),
         b"Set" => Ok(Change::Set(NewSetting {
             master: words.name()?,
-            setting: setting(words)?,
+            setting: match words.bytes() {
+                b"quorum" => MasterSetting::Quorum,
+                b"down_after" => MasterSetting::DownAfter,
+                b"failover_timeout" => MasterSetting::FailoverTimeout,
+                b"parallel_syncs" => MasterSetting::ParallelSyncs,
+                _ => return Err(Unplayed::WrongWords),
+            },
             value: words.number_32(),
         })),
         _ => Err(Unplayed::WrongWords),

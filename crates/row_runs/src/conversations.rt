@@ -13,7 +13,6 @@ use sentinel_core::{Sentinel, ServeFault};
 use sentinel_rules::Profile;
 use std::alloc::Global;
 use std::sync::Wait;
-use tokens::run_id_text;
 
 /// How many bytes have room in a store, so that it takes no memory.
 const ROOM: usize = 65_536;
@@ -177,27 +176,6 @@ impl Talk {
         self.first = ClientSession::new(self.alloc, self.courteous, 1);
     }
 
-    /// Tells the last request for a vote of the first client that was too far ahead, if there was one.
-    fn tell_far(&mut self, told: &mut Told) {
-        match self.first.take_far() {
-            Some(request) => {
-                told.maybe_id(Some(request.candidate));
-                told.number(request.epoch);
-            }
-            None => told.word("none"),
-        }
-    }
-
-    /// Tells what the first client wasn't sent; where a session lacked memory, that is to begin with what it had put
-    /// out.
-    fn tell_unsent(&self, told: &mut Told) -> Result<(), Unplayed> {
-        if !self.first.unsent().starts_with(&self.part) {
-            return Err(Unplayed::Changed);
-        }
-        told.bytes(self.first.unsent());
-        Ok(())
-    }
-
     /// The second client sends a piece.
     fn other_say<R: Wait>(&mut self, rt: &R, piece: &[u8]) -> Result<Reach, ServeFault> {
         self.second
@@ -252,7 +230,13 @@ impl Talk {
                 let (size, stream) = (words.number() as usize, words.bytes());
                 tell_end(self.say_in_pieces(rt, size, stream), told)?;
             }
-            "unsent" => self.tell_unsent(told)?,
+            "unsent" => {
+                // (a session that lacked memory had put out a first part of it)
+                if !self.first.unsent().starts_with(&self.part) {
+                    return Err(Unplayed::Changed);
+                }
+                told.bytes(self.first.unsent());
+            }
             "other_unsent" => told.bytes(self.second.unsent()),
             "sent" => told.yes(self.send(words.number() as usize)),
             "hears" => {
@@ -264,7 +248,13 @@ impl Talk {
                 self.first.want_password(password);
             }
             "knows_epoch" => self.first.note_epoch(words.number()),
-            "far" => self.tell_far(told),
+            "far" => match self.first.take_far() {
+                Some(request) => {
+                    told.maybe_id(Some(request.candidate));
+                    told.number(request.epoch);
+                }
+                None => told.word("none"),
+            },
             "begins_anew" => self.begin_anew(),
             _ => return Err(Unplayed::NoSuchCall),
         }

@@ -6,27 +6,21 @@ use std::alloc::Global;
 /// How no bytes are spelled.
 const EMPTY: &str = "\\e";
 
-/// Adds a byte as a row spells it.
-fn add_byte(text: &mut String, byte: u8) -> Result<(), Unplayed> {
-    match byte {
-        b'\r' => text.push_str("\\r")?,
-        b'\n' => text.push_str("\\n")?,
-        b'\t' => text.push_str("\\t")?,
-        b' ' => text.push_str("\\s")?,
-        b'\\' => text.push_str("\\x5c")?,
-        33..=126 => text.push(char::from(byte))?,
-        _ => write!(text, "\\x{byte:02x}")?,
-    }
-    Ok(())
-}
-
 /// Adds bytes as a row spells them.
 pub(crate) fn add_spelling(text: &mut String, bytes: &[u8]) -> Result<(), Unplayed> {
     if bytes.is_empty() {
         text.push_str(EMPTY)?;
     }
     for byte in bytes {
-        add_byte(text, *byte)?;
+        match *byte {
+            b'\r' => text.push_str("\\r")?,
+            b'\n' => text.push_str("\\n")?,
+            b'\t' => text.push_str("\\t")?,
+            b' ' => text.push_str("\\s")?,
+            b'\\' => text.push_str("\\x5c")?,
+            33..=126 => text.push(char::from(*byte))?,
+            byte => write!(text, "\\x{byte:02x}")?,
+        }
     }
     Ok(())
 }

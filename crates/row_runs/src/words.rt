@@ -154,6 +154,12 @@ impl<'a> Words<'a> {
         Name::from_slice(self.bytes()).ok_or(Unplayed::WrongWords)
     }
 
+    /// The next word as an ip.
+    pub(crate) fn ip(&mut self) -> u32 {
+        let ip = ip_of(self.bytes());
+        self.or(ip, 0)
+    }
+
     /// The next word as an address, as `127.0.0.1:6379`; the port may be 0.
     pub(crate) fn addr(&mut self) -> Addr {
         let addr = addr_in(self.bytes());
@@ -164,6 +170,17 @@ impl<'a> Words<'a> {
     pub(crate) fn address(&mut self) -> Addr {
         let (ip, port) = (self.bytes(), self.bytes());
         self.or(address_of(ip, port), Addr { ip: 0, port: 0 })
+    }
+
+    /// The next two words as an address, or none where the first one is `?`.
+    pub(crate) fn maybe_address(&mut self) -> Option<Addr> {
+        let (ip, port) = (self.bytes(), self.bytes());
+        if ip == b"?".as_slice() {
+            return None;
+        }
+        let addr = address_of(ip, port);
+        self.is_wrong |= addr.is_none();
+        addr
     }
 
     /// The next word as a run id.
