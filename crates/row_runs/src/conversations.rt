@@ -135,19 +135,21 @@ impl Talk {
         Ok(Box::new(alloc, talk)?)
     }
 
-    /// The first client sends a piece, at clock 0, and is answered as a port does it: so many values that may store,
-    /// and as many again while the next one waits.
+    /// The first client sends a piece, at clock 0, of which so many values that may store are answered.
+    fn go_on<R: Wait>(&mut self, rt: &R, piece: &[u8], most: u64) -> Result<Reach, ServeFault> {
+        self.first
+            .go_on(rt, &self.cell, &mut self.seat, 0, piece, most)
+    }
+
+    /// The first client sends a piece and is answered as a port does it: so many values that may store, and as many
+    /// again while the next one waits.
     fn say<R: Wait>(&mut self, rt: &R, piece: &[u8], most: u64) -> Result<Reach, ServeFault> {
-        let mut reach = self
-            .first
-            .go_on(rt, &self.cell, &mut self.seat, 0, piece, most)?;
+        let mut reach = self.go_on(rt, piece, most)?;
         for _ in 0..u64::MAX {
             if reach != Reach::Waits {
                 break;
             }
-            reach = self
-                .first
-                .go_on(rt, &self.cell, &mut self.seat, 0, b"", most)?;
+            reach = self.go_on(rt, b"", most)?;
         }
         Ok(reach)
     }
