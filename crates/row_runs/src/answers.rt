@@ -90,8 +90,8 @@ fn stage(words: &mut Words<'_>) -> FailoverStage {
 
 /// The master that the next eleven words are: its name, its address, whether it is down by all accounts and its
 /// failover runs, its quorum, and the numbers of its answer in their order. In redis-sentinel's words come then whether
-/// enough Sentinels find it down and since when, the stage of its failover, four words of its connection and four of its
-/// INFO.
+/// enough Sentinels find it down and since when, the stage of its failover, four words of its connection and four of
+/// its INFO.
 fn master(words: &mut Words<'_>, is_of_redis: bool) -> Result<MasterRow, Unplayed> {
     let (name, addr) = (words.name()?, words.address());
     let (down, disconnected) = state(words);

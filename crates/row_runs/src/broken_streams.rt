@@ -258,8 +258,8 @@ impl BrokenStreams {
         Ok(())
     }
 
-    /// Serves the stream in each way of a call, after each number of bytes. Tells how many these were, or the first that
-    /// isn't served so.
+    /// Serves the stream in each way of a call, after each number of bytes. Tells how many these were, or the first
+    /// that isn't served so.
     fn try_each(&self, call: &str, words: &mut Words<'_>, told: &mut Told) -> Result<(), Unplayed> {
         let (asks, answers, all) = (self.asks.len(), self.answers.len(), usize::MAX);
         let (sizes, step, end, fault) = match call {

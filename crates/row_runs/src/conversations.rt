@@ -178,6 +178,34 @@ impl Talk {
         self.first = ClientSession::new(self.alloc, self.courteous, 1);
     }
 
+    /// From now on the first client is to give this password.
+    fn want_password(&mut self, password: &[u8]) -> Result<(), Unplayed> {
+        self.first
+            .want_password(Text::from_slice(self.alloc, password)?);
+        Ok(())
+    }
+
+    /// Tells the last request for a vote of the first client that was too far ahead, if there was one.
+    fn tell_far(&mut self, told: &mut Told) {
+        match self.first.take_far() {
+            Some(request) => {
+                told.maybe_id(Some(request.candidate));
+                told.number(request.epoch);
+            }
+            None => told.word("none"),
+        }
+    }
+
+    /// Tells what the first client wasn't sent; where a session lacked memory, that is to begin with what it had put
+    /// out.
+    fn tell_unsent(&self, told: &mut Told) -> Result<(), Unplayed> {
+        if !self.first.unsent().starts_with(&self.part) {
+            return Err(Unplayed::Changed);
+        }
+        told.bytes(self.first.unsent());
+        Ok(())
+    }
+
     /// The second client sends a piece.
     fn other_say<R: Wait>(&mut self, rt: &R, piece: &[u8]) -> Result<Reach, ServeFault> {
         self.second
@@ -232,31 +260,16 @@ impl Talk {
                 let (size, stream) = (words.number() as usize, words.bytes());
                 tell_end(self.say_in_pieces(rt, size, stream), told)?;
             }
-            "unsent" => {
-                // (a session that lacked memory had put out a first part of it)
-                if !self.first.unsent().starts_with(&self.part) {
-                    return Err(Unplayed::Changed);
-                }
-                told.bytes(self.first.unsent());
-            }
+            "unsent" => self.tell_unsent(told)?,
             "other_unsent" => told.bytes(self.second.unsent()),
             "sent" => told.yes(self.send(words.number() as usize)),
             "hears" => {
                 let note = moved(words.number(), words.number_16());
                 told.yes(self.hear(&note, words.number())?);
             }
-            "wants_password" => {
-                let password = Text::from_slice(self.alloc, words.bytes())?;
-                self.first.want_password(password);
-            }
+            "wants_password" => self.want_password(words.bytes())?,
             "knows_epoch" => self.first.note_epoch(words.number()),
-            "far" => match self.first.take_far() {
-                Some(request) => {
-                    told.maybe_id(Some(request.candidate));
-                    told.number(request.epoch);
-                }
-                None => told.word("none"),
-            },
+            "far" => self.tell_far(told),
             "begins_anew" => self.begin_anew(),
             _ => return Err(Unplayed::NoSuchCall),
         }

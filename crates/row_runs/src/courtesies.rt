@@ -228,8 +228,8 @@ fn tell_unheld(piece: &[u8], told: &mut Told) -> Result<(), Unplayed> {
     Ok(())
 }
 
-/// Tells what becomes of a stream that comes in these pieces: of the connection with no name, of one that listens, or of
-/// one of whose client a password is wanted.
+/// Tells what becomes of a stream that comes in these pieces: of the connection with no name, of one that listens, or
+/// of one of whose client a password is wanted.
 fn tell_stream(
     alloc: Global,
     call: &str,

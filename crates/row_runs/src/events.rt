@@ -31,60 +31,54 @@ fn command(alloc: Global, words: &[Vec<u8>]) -> Result<Command, Unplayed>
     }
 }
 
-/// What happens, in these words. A tick has the random number 0, and commands come from the first client of the port.
-pub(crate) fn event(alloc: Global, words: &mut Words<'_>) -> Result<Event, Unplayed>
+/// What is heard of a node, or of the connection to it.
+fn of_node(kind: &str, node: NodeName) -> Result<Event, Unplayed>
     ensures { IfOk result IsWithinEvent }
 {
-    let kind = words.text();
     let reply = match kind {
-        "tick" => {
-            return Ok(Event::Tick {
-                master: words.number_16(),
-                random: 0,
-            });
-        }
-        "command" => {
-            return Ok(Event::Command {
-                sender: NodeName::PortAt(0),
-                command: command(alloc, words.rest())?,
-            });
-        }
-        "section" => {
-            return Ok(Event::Command {
-                sender: NodeName::PortAt(0),
-                command: Command::Info,
-            });
-        }
-        "answer" => {
-            return Ok(Event::Answered {
-                voter: words.node(),
-                master: words.number_16(),
-                addr: words.addr(),
-                down: words.says("down", "up"),
-                leader: words.maybe_id(),
-                epoch: words.number(),
-            });
-        }
-        "info" => {
-            return Ok(Event::InfoRead {
-                node: words.node(),
-                text: Text::from_slice(alloc, words.bytes())?,
-            });
-        }
-        "hello" => {
-            return Ok(Event::HelloRead {
-                text: Text::from_slice(alloc, words.bytes())?,
-            });
-        }
-        "refused" => return Ok(Event::Refused { node: words.node() }),
-        "lost" => return Ok(Event::Disconnected { node: words.node() }),
+        "refused" => return Ok(Event::Refused { node }),
+        "lost" => return Ok(Event::Disconnected { node }),
         "pong" => PingReply::Pong,
         "loading" => PingReply::Loading,
         "noauth" => PingReply::Other,
         _ => return Err(Unplayed::WrongWords),
     };
-    Ok(Event::Pinged {
-        node: words.node(),
-        reply,
-    })
+    Ok(Event::Pinged { node, reply })
+}
+
+/// What happens, in these words. A tick has the random number 0, and commands come from the first client of the port.
+pub(crate) fn event(alloc: Global, words: &mut Words<'_>) -> Result<Event, Unplayed>
+    ensures { IfOk result IsWithinEvent }
+{
+    let sender = NodeName::PortAt(0);
+    match words.text() {
+        "tick" => Ok(Event::Tick {
+            master: words.number_16(),
+            random: 0,
+        }),
+        "command" => Ok(Event::Command {
+            sender,
+            command: command(alloc, words.rest())?,
+        }),
+        "section" => Ok(Event::Command {
+            sender,
+            command: Command::Info,
+        }),
+        "answer" => Ok(Event::Answered {
+            voter: words.node(),
+            master: words.number_16(),
+            addr: words.addr(),
+            down: words.says("down", "up"),
+            leader: words.maybe_id(),
+            epoch: words.number(),
+        }),
+        "info" => Ok(Event::InfoRead {
+            node: words.node(),
+            text: Text::from_slice(alloc, words.bytes())?,
+        }),
+        "hello" => Ok(Event::HelloRead {
+            text: Text::from_slice(alloc, words.bytes())?,
+        }),
+        kind => of_node(kind, words.node()),
+    }
 }

@@ -132,6 +132,17 @@ impl Turns {
         Ok(())
     }
 
+    /// A turn at this moment: the row that it takes.
+    fn turn(&mut self, now: u64) -> Option<Row> {
+        let act = self.failover.turn(&Facts {
+            now,
+            down: &self.down,
+            ..self.known
+        });
+        self.vote = act.vote;
+        act.row
+    }
+
     /// Tells the places of the replicas that the last turn gave an order.
     fn tell_ordered(&self, told: &mut Told) {
         let mut is_none = true;
@@ -158,15 +169,7 @@ impl Turns {
     ) -> Result<(), Unplayed> {
         match call {
             "know" => return self.know(words),
-            "turn" => {
-                let act = self.failover.turn(&Facts {
-                    now: words.number(),
-                    down: &self.down,
-                    ..self.known
-                });
-                self.vote = act.vote;
-                told.word(row_name(act.row));
-            }
+            "turn" => told.word(row_name(self.turn(words.number()))),
             "vote" => told.maybe_id(self.vote),
             "state" => told.word(state_name(self.failover.state())),
             "epoch" => told.maybe_number(self.failover.epoch()),

@@ -146,19 +146,14 @@ fn written_again(alloc: Global, size: usize, bytes: &[u8]) -> Result<OutText, Un
 
 /// Tells how long a text is with these bytes behind it, its first part, and what is left of it when it is cleared. The
 /// bytes are added one at a time, each once more where that lacked memory.
-fn tell_parts(
-    mut text: OutText,
-    others: &[u8],
-    len: usize,
-    told: &mut Told,
-) -> Result<(), Unplayed> {
-    for byte in others {
+fn tell_parts(mut text: OutText, words: &mut Words<'_>, told: &mut Told) -> Result<(), Unplayed> {
+    for byte in words.bytes() {
         if text.add(&[*byte]).is_err() && text.add(&[*byte]).is_err() {
             return Err(Unplayed::Changed);
         }
     }
     told.number(text.len() as u64);
-    text.truncate(len);
+    text.truncate(words.number() as usize);
     told.bytes(text.as_slice());
     text.clear();
     told.bytes(text.as_slice());
@@ -216,8 +211,7 @@ pub(crate) fn play(
         }
         "out_text" => {
             let bytes = words.bytes();
-            let text = written_again(alloc, bytes.len(), bytes)?;
-            tell_parts(text, words.bytes(), words.number() as usize, told)?;
+            tell_parts(written_again(alloc, bytes.len(), bytes)?, words, told)?;
         }
         _ => return Err(Unplayed::NoSuchCall),
     }

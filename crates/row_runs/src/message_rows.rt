@@ -117,7 +117,7 @@ pub(crate) fn message(
     })
 }
 
-/// Tells what a voter says of a master, or of which node another event is.
+/// Tells what is heard of a node, or of the connection to it.
 fn tell_heard(event: &Event, told: &mut Told) {
     match event {
         Event::Pinged { node, reply } => {
@@ -129,22 +129,6 @@ fn tell_heard(event: &Event, told: &mut Told) {
                 PingReply::MasterDown => "MasterDown",
                 PingReply::Other => "Other",
             });
-        }
-        Event::Answered {
-            voter,
-            master,
-            addr,
-            down,
-            leader,
-            epoch,
-        } => {
-            told.word("Answered");
-            tell_node(*voter, told);
-            told.number(u64::from(*master));
-            told.address(*addr);
-            told.word(if *down { "down" } else { "up" });
-            told.maybe_id(*leader);
-            told.number(*epoch);
         }
         Event::InfoRead { node, text } => {
             told.word("InfoRead");
@@ -174,6 +158,22 @@ pub(crate) fn tell_event(alloc: Global, event: &Event, told: &mut Told) -> Resul
             told.word("Command");
             tell_node(*sender, told);
             tell_command(command, told);
+        }
+        Event::Answered {
+            voter,
+            master,
+            addr,
+            down,
+            leader,
+            epoch,
+        } => {
+            told.word("Answered");
+            tell_node(*voter, told);
+            told.number(u64::from(*master));
+            told.address(*addr);
+            told.word(if *down { "down" } else { "up" });
+            told.maybe_id(*leader);
+            told.number(*epoch);
         }
         Event::Handed(message) => {
             told.word("Handed");

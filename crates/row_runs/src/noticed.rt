@@ -47,6 +47,23 @@ fn replica_word(what: ReplicaNotice) -> &'static str {
     }
 }
 
+/// Tells what happened to a master, and the numbers that go with it.
+fn tell_master(what: MasterNotice, told: &mut Told) {
+    told.word(master_word(what));
+    match what {
+        MasterNotice::PutOff { left, timeout } => {
+            told.number(left);
+            told.number(timeout);
+        }
+        MasterNotice::Short { up, of, need } => {
+            told.number(u64::from(up));
+            told.number(u64::from(of));
+            told.number(u64::from(need));
+        }
+        _ => {}
+    }
+}
+
 /// Tells a notice: its word, the place that it names, and the master's number with the address that it had.
 pub(crate) fn tell_notice(notice: Notice, told: &mut Told) {
     let master = match notice {
@@ -71,19 +88,7 @@ pub(crate) fn tell_notice(notice: Notice, told: &mut Told) {
             None
         }
         Notice::OfMaster { of, what } => {
-            told.word(master_word(what));
-            match what {
-                MasterNotice::PutOff { left, timeout } => {
-                    told.number(left);
-                    told.number(timeout);
-                }
-                MasterNotice::Short { up, of, need } => {
-                    told.number(u64::from(up));
-                    told.number(u64::from(of));
-                    told.number(u64::from(need));
-                }
-                _ => {}
-            }
+            tell_master(what, told);
             Some(of)
         }
         Notice::OfReplica { of, place, what } => {

@@ -22,10 +22,9 @@ impl Votes {
     }
 }
 
-/// Tells what comes of a call with these words.
-pub(crate) fn play(
-    votes: &mut Votes,
-    alloc: Global,
+/// Tells what comes of a call about the own vote.
+fn play_book(
+    book: &mut VoteBook,
     call: &str,
     words: &mut Words<'_>,
     told: &mut Told,
@@ -37,20 +36,34 @@ pub(crate) fn play(
             if voted == 0 && candidate.is_some() {
                 return Err(Unplayed::OutOfRange);
             }
-            votes.book = VoteBook::of(current, voted, candidate);
+            *book = VoteBook::of(current, voted, candidate);
         }
         "ask" => {
-            let answer = votes.book.ask(words.number(), words.id());
+            let answer = book.ask(words.number(), words.id());
             told.maybe_id(answer.leader);
             told.number(answer.epoch);
         }
-        "campaign" => told.maybe_number(votes.book.open_campaign()),
-        "raise" => votes.book.raise(words.number()),
-        "current" => told.number(votes.book.current()),
+        "campaign" => told.maybe_number(book.open_campaign()),
+        "raise" => book.raise(words.number()),
+        "current" => told.number(book.current()),
         "voted" => {
-            told.maybe_id(votes.book.leader());
-            told.number(votes.book.voted());
+            told.maybe_id(book.leader());
+            told.number(book.voted());
         }
+        _ => return Err(Unplayed::NoSuchCall),
+    }
+    Ok(())
+}
+
+/// Tells what comes of a call with these words.
+pub(crate) fn play(
+    votes: &mut Votes,
+    alloc: Global,
+    call: &str,
+    words: &mut Words<'_>,
+    told: &mut Told,
+) -> Result<(), Unplayed> {
+    match call {
         "heard" => votes.heard = Heard::new(alloc, words.number_16())?,
         "hear" => {
             let voter = words.number_16();
@@ -72,7 +85,7 @@ pub(crate) fn play(
             let need = words.number_32();
             told.yes(elected(&votes.book, &votes.heard, epoch, candidate, need));
         }
-        _ => return Err(Unplayed::NoSuchCall),
+        _ => return play_book(&mut votes.book, call, words, told),
     }
     Ok(())
 }

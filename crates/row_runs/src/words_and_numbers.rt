@@ -9,36 +9,14 @@ use tokens::{
     is_decimal, number_of, port_of, run_id_of, run_id_text, split_at_byte, split_line,
 };
 
-/// Tells what comes of a call with these words.
-pub(crate) fn play(
+/// Tells what comes of a call that spells or cuts a text.
+fn play_texts(
     alloc: Global,
     call: &str,
     words: &mut Words<'_>,
     told: &mut Told,
 ) -> Result<(), Unplayed> {
     match call {
-        "number_of" => {
-            told.maybe_number(number_of(words.bytes(), words.number(), words.number()));
-        }
-        "canonical_number_of" => {
-            let number = canonical_number_of(words.bytes(), words.number(), words.number());
-            told.maybe_number(number);
-        }
-        "are_digits" => told.yes(are_digits(words.bytes())),
-        "is_decimal" => told.yes(is_decimal(words.bytes())),
-        "ip_of" => told.maybe_number(ip_of(words.bytes()).map(u64::from)),
-        "port_of" => told.maybe_number(port_of(words.bytes()).map(u64::from)),
-        "address_of" => told.maybe_address(address_of(words.bytes(), words.bytes())),
-        "canonical_address_of" => {
-            told.maybe_address(canonical_address_of(words.bytes(), words.bytes()));
-        }
-        "run_id_of" => match run_id_of(words.bytes()) {
-            Some(id) => {
-                told.hexadecimal(id.hi);
-                told.hexadecimal(u128::from(id.lo));
-            }
-            None => told.word("None"),
-        },
         "ip_text" => told.bytes(ip_text(words.number_32()).as_slice()),
         "run_id_text" => {
             let hi = u128::from_str_radix(words.text(), 16);
@@ -70,6 +48,41 @@ pub(crate) fn play(
             told.bytes(rest);
         }
         _ => return Err(Unplayed::NoSuchCall),
+    }
+    Ok(())
+}
+
+/// Tells what comes of a call with these words.
+pub(crate) fn play(
+    alloc: Global,
+    call: &str,
+    words: &mut Words<'_>,
+    told: &mut Told,
+) -> Result<(), Unplayed> {
+    match call {
+        "number_of" => {
+            told.maybe_number(number_of(words.bytes(), words.number(), words.number()));
+        }
+        "canonical_number_of" => {
+            let number = canonical_number_of(words.bytes(), words.number(), words.number());
+            told.maybe_number(number);
+        }
+        "are_digits" => told.yes(are_digits(words.bytes())),
+        "is_decimal" => told.yes(is_decimal(words.bytes())),
+        "ip_of" => told.maybe_number(ip_of(words.bytes()).map(u64::from)),
+        "port_of" => told.maybe_number(port_of(words.bytes()).map(u64::from)),
+        "address_of" => told.maybe_address(address_of(words.bytes(), words.bytes())),
+        "canonical_address_of" => {
+            told.maybe_address(canonical_address_of(words.bytes(), words.bytes()));
+        }
+        "run_id_of" => match run_id_of(words.bytes()) {
+            Some(id) => {
+                told.hexadecimal(id.hi);
+                told.hexadecimal(u128::from(id.lo));
+            }
+            None => told.word("None"),
+        },
+        _ => return play_texts(alloc, call, words, told),
     }
     Ok(())
 }
