@@ -14,6 +14,7 @@ import importlib.machinery
 import importlib.util
 import json
 import os
+import pathlib
 import queue
 import re
 import shutil
@@ -232,7 +233,8 @@ class Lanes:
 
     def __init__(self, rt, tasks):
         number = os.environ.get("RT_JOBS", "")
-        self.processors, self.memory = int(number) if number.isdigit() and int(number) else rt.processors(), 0.85 * rt.free()
+        self.rt, self.memory = rt, 0.85 * rt.free()
+        self.processors = int(number) if number.isdigit() and int(number) else rt.processors()
         self.tasks, self.chains = tasks, chains_of(tasks)
         self.left, self.running, self.given = sorted(tasks, key=lambda it: -self.chains[it]), {}, {}
         self.ended = queue.SimpleQueue()
@@ -260,6 +262,8 @@ class Lanes:
 
     def begin(self, key, most, is_first):
         """Begins a task with so many jobs at most, if there is memory for it, or nothing else runs."""
+        # (what others gave back since the first look counts as well)
+        self.memory = max(self.memory, 0.85 * self.rt.free())
         room = self.memory - sum(needs for _, needs in self.running.values())
         needs = {jobs: self.tasks[key][2] * (0.5 + 0.125 * (jobs - 1)) for jobs in range(1, most + 1)}
         jobs = max((it for it in needs if needs[it] <= room), default=0 if self.running else 1)
@@ -280,33 +284,15 @@ class Lanes:
         self.ended.put((key, given, error))
 
 
-def sum_of_crate(folder):
-    """The sum of a crate's sources, definitions and proofs."""
-    total = hashlib.sha256()
-    for at, folders, names in os.walk(folder):
-        folders[:] = sorted(it for it in folders if it not in ("out", "must-fail", "wrong-bodies"))
-        for name in sorted(it for it in names if it.endswith((".rt", ".antt"))):
-            with open(f"{at}/{name}", "rb") as data:
-                total.update(os.path.relpath(f"{at}/{name}", folder).encode() + b" " + data.read())
-    return total.digest()
-
-
 def over_built(words, crate, trees):
-    """The words of a check that takes libraries as source, with each that stands in one of these trees, of the same files as here, as it was built there."""
-    sums = {it.name: sum_of_crate(it.folder) for it in crate.below()}
-
-    def rlib(tree, it):
-        return f"{tree}/crates/{it.name}/out/rlib/{it.name}.rlib"
-
-    def stands(tree, it):
-        return os.path.exists(rlib(tree, it)) and sum_of_crate(f"{tree}/crates/{it.name}") == sums[it.name]
-
+    """The words of a check that takes libraries as source, with each that stands in one of these trees, made of the same files as here over the same
+    libraries, as it was built there."""
     found = {}
-    for tree in trees:
-        good = {it.name for it in crate.below() if stands(tree, it)}
-        for it in crate.below():
-            if it.name not in found and good.issuperset([it.name, *[low.name for low in it.below()]]):
-                found[it.name] = rlib(tree, it)
+    for it in crate.below():
+        for tree in trees:
+            made = f"{tree}/crates/{it.name}/out/rlib"
+            if os.path.exists(f"{made}/stamp") and pathlib.Path(f"{made}/stamp").read_text(encoding="utf-8") == it.stamp():
+                found[it.name] = f"{made}/{it.name}.rlib"
     new, rest = [], iter(words)
     for word in rest:
         if word != "--lib":

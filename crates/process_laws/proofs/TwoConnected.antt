@@ -57,6 +57,7 @@ use Rattle.sentinel_cell.specs.Histories.{World, IsLegal, AreSteps}
 use Rattle.sentinel_core.specs.Serving.Serving.{output_bytes}
 use Rattle.sentinel_rules.specs.States.{is_unrefused}
 use Rattle.sentinel_rules.specs.Ticks.{hands_over}
+use Rattle.sentinel_rules.specs.Endings.{is_contested}
 use Rattle.sentinel_rules.specs.Worked.{id_a, local, ask_at}
 use Rattle.process_laws.specs.Actions.{Action, Opened, Took, Told, IsOpened, actions_after, all_elected, all_said, at_first}
 use Rattle.process_laws.specs.Connections.{IsAlone}
@@ -74,7 +75,7 @@ use Rattle.process_laws.proofs.TwoProcesses.{starts_here, opens_here, is_left, h
 
 -- what is unfolded to compute texts and failovers that are written out
 unfoldable on_literals : ⊤
-unfolding is_unrefused hands_over told is_due is_next is_utf8 chars encode digits hex
+unfolding is_unrefused hands_over is_contested told is_due is_next is_utf8 chars encode digits hex
 on_literals = tt
 
 below_two : (P : ℕ → Type 0) → P 0 → P 1 → (i : ℕ) → i < 2 → P i

@@ -18,6 +18,7 @@ use Rattle.failover_states.specs.Replicas.{told, is_due, is_next}
 use Rattle.sentinel_conf.specs.Rewritten.{IsKeptPart}
 use Rattle.sentinel_rules.specs.States.{is_unrefused}
 use Rattle.sentinel_rules.specs.Ticks.{hands_over}
+use Rattle.sentinel_rules.specs.Endings.{is_contested}
 use Rattle.sentinel_rules.specs.Worked.{id_a, id_b, local}
 use Rattle.process_laws.specs.Actions.{Action, Process, AreActions, actions_after, all_sent, at_first}
 use Rattle.process_laws.specs.Differing.{DifferInNodes}
@@ -29,7 +30,7 @@ use Rattle.process_laws.proofs.TwoProcesses.{first_answer, vote_given, hello_pub
 
 -- what is unfolded to compute texts and failovers that are written out
 unfoldable on_literals : ⊤
-unfolding is_unrefused hands_over told is_due is_next is_utf8 chars encode digits hex
+unfolding is_unrefused hands_over is_contested told is_due is_next is_utf8 chars encode digits hex
 on_literals = tt
 
 shown : IsShown

@@ -21,6 +21,7 @@ use Rattle.failover_states.specs.Replicas.{told, is_due, is_next}
 use Rattle.sentinel_conf.specs.Rewritten.{IsKeptPart}
 use Rattle.sentinel_rules.specs.States.{is_unrefused}
 use Rattle.sentinel_rules.specs.Ticks.{hands_over}
+use Rattle.sentinel_rules.specs.Endings.{is_contested}
 use Rattle.sentinel_rules.specs.Worked.{id_a, id_b, local}
 use Rattle.process_laws.proofs.Differing.{same_differs}
 use Rattle.process_laws.proofs.Safety.{after_both}
@@ -30,7 +31,7 @@ use Rattle.process_laws.specs.Actions.{Action, Process, IsOpened, AreActions, ac
 
 -- what is unfolded to compute texts and failovers that are written out
 unfoldable on_literals : ⊤
-unfolding is_unrefused hands_over told is_due is_next is_utf8 chars encode digits hex
+unfolding is_unrefused hands_over is_contested told is_due is_next is_utf8 chars encode digits hex
 on_literals = tt
 
 shown : IsShown

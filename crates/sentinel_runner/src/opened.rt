@@ -133,6 +133,7 @@ impl<S: ConfStore + Drop> Opened<S> {
                 if error.kind() != ErrorKind::OutOfMemory {
                     warn!(rt; "port {number} of 127.0.0.1 can't be had");
                 }
+                drop(conf);
                 Err(fault_of(&error))
             }
         }
@@ -165,11 +166,13 @@ impl<S: ConfStore + Drop> Opened<S> {
         let (port, others) = ports;
         let (number, place) = (conf.port(), conf.place());
         let Ok(sentinel) = Sentinel::open_with(alloc, conf, room.profile(), reboots, now) else {
+            drop(port);
             return Err(GroupFault::NoMemory);
         };
         let threads = room.threads();
         let seats = u64::from(threads) + u64::from(beside);
         let Ok(fresh) = FreshSentinel::new(alloc, sentinel, store, seats) else {
+            drop(port);
             return Err(GroupFault::NoMemory);
         };
         Ok(Opened {

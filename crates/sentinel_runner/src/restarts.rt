@@ -266,10 +266,16 @@ impl<S: ConfStore + Drop> Restarts<S> {
     {
         let conf = conf_in(self.alloc, store)?;
         if !self.is_of(&conf, place) {
+            drop(conf);
             return Err(Unstarted::OtherGroup);
         }
-        let ports = port_of(net, self.alloc, conf.port(), self.room)?;
-        Ok((conf, ports))
+        match port_of(net, self.alloc, conf.port(), self.room) {
+            Ok(ports) => Ok((conf, ports)),
+            Err(why) => {
+                drop(conf);
+                Err(why)
+            }
+        }
     }
 
     /// The Sentinel at this place, open again at this reading of the clock. Where it can't be, its store is here again;
@@ -304,12 +310,13 @@ impl<S: ConfStore + Drop> Restarts<S> {
 
     /// Hands the Sentinel at this place to its threads.
     fn hand<R: Wait + Log>(&mut self, rt: &R, shared: &Shared, place: u16, restart: Restart<S>) {
-        if let Some(Some(member)) = self.members.get_mut(place as usize) {
-            member.is_stopped = false;
-            shared.stops.start(place);
-            drop(member.to.send(rt, restart));
-            info!(rt; "s{place} is started");
-        }
+        let Some(Some(member)) = self.members.get_mut(place as usize) else {
+            return drop(restart);
+        };
+        member.is_stopped = false;
+        shared.stops.start(place);
+        drop(member.to.send(rt, restart));
+        info!(rt; "s{place} is started");
     }
 
     /// Has the Sentinel at this place start with what its store holds, once its threads have ended: its port opens

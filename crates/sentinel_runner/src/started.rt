@@ -65,8 +65,9 @@ pub(crate) struct Started<S: ConfStore> {
 /// Loses the messages that came for a Sentinel that is stopped.
 fn lose_all<R: Wait>(rt: &R, deliveries: &Receiver<Delivery>) {
     for _ in 0..LOST_MAX {
-        if deliveries.try_recv(rt).is_err() {
-            return;
+        match deliveries.try_recv(rt) {
+            Ok(lost) => drop(lost),
+            Err(_) => return,
         }
     }
 }
@@ -85,6 +86,7 @@ impl<S: ConfStore + Drop> LifeEnds<S> {
                 .restarts
                 .recv_timeout(rt, Duration::from_millis(START_MS));
             if ending.load(Ordering::SeqCst) != 0 {
+                drop(came);
                 return None;
             }
             match came {
@@ -124,9 +126,13 @@ impl<S: ConfStore + Drop> LifeEnds<S> {
         S: Send,
     {
         let place = life.opened.place;
-        let stop = shared.stops.of(place)?;
+        let Some(stop) = shared.stops.of(place) else {
+            drop(life);
+            return None;
+        };
         let left = life.run(rt, alloc, shared, stop);
         if ending.load(Ordering::SeqCst) != 0 {
+            drop(left);
             return None;
         }
         let Some(left) = left else {
@@ -153,6 +159,18 @@ impl<S: ConfStore + Drop> Life<S> {
     }
 }
 
+/// The end of the channel of the Sentinel at this place, and where it comes in again at the port with this number.
+fn ends_of<S: ConfStore + Drop>(
+    links: &mut Links,
+    restarts: &mut Restarts<S>,
+    place: u16,
+    number: u16,
+) -> Result<(Receiver<Delivery>, LifeEnds<S>), AllocError> {
+    let deliveries = links.connect(place)?;
+    let ends = restarts.add(place, number)?;
+    Ok((deliveries, ends))
+}
+
 impl<S: ConfStore + Drop> Started<S> {
     /// Opens the Sentinel of this conf at clock 0, and its port, and connects it.
     pub(crate) fn open<R: Net + Log>(
@@ -167,12 +185,16 @@ impl<S: ConfStore + Drop> Started<S> {
         ensures roster { IfErr result (λ fault. fault ≢ NotOneRoster) }
     {
         let opened = Opened::open(rt, alloc, conf, store, restarts.room(), BESIDE)?;
-        let deliveries = links.connect(opened.place)?;
-        let ends = restarts.add(opened.place, opened.number)?;
-        Ok(Started {
-            life: Life { opened, deliveries },
-            ends,
-        })
+        match ends_of(links, restarts, opened.place, opened.number) {
+            Ok((deliveries, ends)) => Ok(Started {
+                life: Life { opened, deliveries },
+                ends,
+            }),
+            Err(_) => {
+                drop(opened);
+                Err(GroupFault::NoMemory)
+            }
+        }
     }
 
     /// Runs its threads until `ending` isn't 0; each time that it is stopped they end, and when it is started there are
@@ -190,10 +212,11 @@ impl<S: ConfStore + Drop> Started<S> {
         let Started { mut life, ends } = self;
         for _ in rt.forever() {
             let Some(next) = ends.next_life(rt, alloc, shared, life, ending) else {
-                return;
+                return drop(ends);
             };
             life = next;
         }
+        unreachable!()
     }
 }
 
@@ -225,9 +248,11 @@ where
     } = opened;
     let made = RunningSentinel::<J, S>::with_seat(alloc, fresh, place, number, port_threads);
     let Ok((member, seat)) = made else {
+        drop(port);
         return none_for_want(&shared.state, stop);
     };
     let Ok((mut parts, back)) = life_parts(alloc, &member, seat, (port, others)) else {
+        drop(member);
         return none_for_want(&shared.state, stop);
     };
     let Some(own) = parts.pop() else {
@@ -281,8 +306,14 @@ fn life_parts<J: Which, S: ConfStore>(
     ensures { IfOk result (λ r. length r.0.items ≡ length ports.1.items + 1 + BESIDE) }
 {
     let link = LifeTask::Link(HearsAll { of: PhantomData });
-    let beside = vec![in alloc; LifeTask::Timer, link]?;
-    parts_of(alloc, member, seat, beside, ports)
+    match vec![in alloc; LifeTask::Timer, link] {
+        Ok(beside) => parts_of(alloc, member, seat, beside, ports),
+        Err(error) => {
+            drop(seat);
+            drop(ports);
+            Err(error.into())
+        }
+    }
 }
 
 /// What the threads of a Sentinel of a group share.

@@ -105,6 +105,23 @@ pub(crate) fn serve_port<J: Which, S: ConfStore, R: Wait + Clock + ReadsTimes + 
     if let Err(error) = port.serve(rt, state, member, seat, ending) {
         note_lost(state, &error);
     }
+    drop(port);
+}
+
+/// The seats that came back; none where memory was refused.
+fn seats_of<J: Which, R: Wait>(
+    rt: &R,
+    alloc: Global,
+    back: &Receiver<ThreadSeat<J>>,
+) -> Option<Vec<ThreadSeat<J>>> {
+    let mut seats = Vec::new(alloc);
+    for _ in 0..u64::MAX {
+        match back.try_recv(rt) {
+            Ok(seat) => seats.push(seat).ok()?,
+            Err(_) => break,
+        }
+    }
+    Some(seats)
 }
 
 /// Ends a Sentinel whose threads have ended: it and its store, as the history of its turns leaves them, where all of
@@ -117,14 +134,13 @@ pub(crate) fn close<J: Which, S: ConfStore + Drop, R: Wait>(
 ) -> Option<Keeper<S>>
     ensures { IfSome result (IsLeftByTurns J.told S.held S.failure_count member.cell.start) }
 {
-    let mut seats = Vec::new(alloc);
-    for _ in 0..u64::MAX {
-        match back.try_recv(rt) {
-            Ok(seat) => seats.push(seat).ok()?,
-            Err(_) => break,
+    match seats_of(rt, alloc, back) {
+        Some(seats) => member.close(seats),
+        None => {
+            drop(member);
+            None
         }
     }
-    member.close(seats)
 }
 
 /// Ends the threads that look at this word, since one of them or its room couldn't be made.

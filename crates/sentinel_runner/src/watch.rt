@@ -215,7 +215,11 @@ fn opened_of<S: ConfStore + Drop>(
     ensures ports { IfOk result (λ opened. (opened.port ≡ ports.0) × (opened.others ≡ ports.1)) }
     ensures start { IfOk result (λ opened. IsOpenedAnew conf room.profile reboots.items 0 opened.fresh.cell.start) }
 {
-    prove_store(alloc, &conf, &mut store)?;
+    if let Err(fault) = prove_store(alloc, &conf, &mut store) {
+        drop(conf);
+        drop(ports);
+        return Err(fault);
+    }
     let beginning = OpenedWith {
         conf,
         store,
@@ -378,11 +382,16 @@ where
     } = opened;
     let made = RunningSentinel::<J, S>::with_seat(alloc, fresh, place, number, port_threads);
     let Ok((member, seat)) = made else {
+        drop(port);
+        drop(wires);
         return none_for_want(&state.run, &state.ending);
     };
     let (wires, far) = match wires.named::<J, C>(sockets) {
         Ok(both) => both,
         Err(error) => {
+            drop(member);
+            drop(seat);
+            drop(port);
             note_lost(&state.run, &error);
             return None;
         }
@@ -390,6 +399,8 @@ where
     far.guard(&member);
     let ticks = TickLoop::new(alloc, &member, far, state.run.clock.now(rt));
     let Ok((parts, back)) = watch_parts(alloc, &member, seat, ticks, (port, others)) else {
+        drop(member);
+        drop(wires);
         return none_for_want(&state.run, &state.ending);
     };
     let watch = WatchOf {
@@ -425,8 +436,14 @@ fn watch_parts<J: Which, S: ConfStore>(
 ) -> Result<(Vec<Part<J, WatchTask<J>>>, Receiver<ThreadSeat<J>>), AllocError>
     requires { seat.seat.view.share ≡ length ports.1.items + 1 + BESIDE }
 {
-    let beside = vec![in alloc; WatchTask::Ticks(ticks)]?;
-    parts_of(alloc, member, seat, beside, ports)
+    match vec![in alloc; WatchTask::Ticks(ticks)] {
+        Ok(beside) => parts_of(alloc, member, seat, beside, ports),
+        Err(error) => {
+            drop(seat);
+            drop(ports);
+            Err(error.into())
+        }
+    }
 }
 
 /// Waits until another Sentinel's hello of each master was taken, for `FIRST_MS` at most, so that nobody is told an
@@ -464,7 +481,10 @@ impl<J: Which, S: ConfStore, R: Wait + Clock + ReadsTimes + Log> Work<WatchOf<'_
         } = self;
         let WatchOf { member, state } = *watch;
         match task {
-            WatchTask::Ticks(mut ticks) => ticks.run(rt, state, member, &mut seat),
+            WatchTask::Ticks(mut ticks) => {
+                ticks.run(rt, state, member, &mut seat);
+                drop(ticks);
+            }
             WatchTask::Port(port) => {
                 await_hellos(rt, state);
                 serve_port(rt, &state.run, member, &mut seat, port, &state.ending)
@@ -484,6 +504,7 @@ impl<J: Which, S: ConfStore, C: Connects<J> + Drop, R: Wait + Clock + Log> Work<
         if let Err(error) = self.run(rt, watch.state) {
             note_lost(&watch.state.run, &error);
         }
+        drop(self);
         watch.state.ending.store(1, Ordering::SeqCst);
     }
 }
