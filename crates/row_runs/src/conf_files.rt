@@ -77,6 +77,7 @@ fn tell_beginnings(
     for end in 0..text.len() {
         let mut beginning = Told::new(alloc);
         tell_read(alloc, &text[..end], &mut beginning)?;
+        beginning.end()?;
         let fault = beginning.as_str().split(' ').next().unwrap_or("");
         if !faults.iter().any(|one| one.as_slice() == fault.as_bytes()) {
             told.word(beginning.as_str());
