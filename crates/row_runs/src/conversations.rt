@@ -71,11 +71,16 @@ fn tell_seats(alloc: Global, file: &[u8], seats: u64, told: &mut Told) -> Result
     let store = store(alloc, file, false)?;
     let sentinel = opened(alloc, file, false)?;
     match SharedSentinel::new(alloc, sentinel, store, seats) {
-        Ok((_, seat)) => told.number(seat.share()),
-        Err((_, CellFault::NoMemory)) => return Err(Unplayed::NoMemory),
-        Err((_, fault)) => told.shown(&fault),
+        Ok((_, seat)) => {
+            told.number(seat.share());
+            Ok(())
+        }
+        Err((_, CellFault::NoMemory)) => Err(Unplayed::NoMemory),
+        Err((_, fault)) => {
+            told.shown(&fault);
+            Ok(())
+        }
     }
-    Ok(())
 }
 
 /// A store with this text, which refuses its first text if that is wanted.
