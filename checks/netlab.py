@@ -87,16 +87,16 @@ class Lab:
     """A master d0 with replicas d1 .., and Sentinels s0 .. of a kind each: `ours` or `redis`. `own` has the quorum and down-after of single Sentinels, by
     place; replicas know the master by the name `replicaof`, where there is one; `has_fsync` is whether stores can be made slow, which needs `cc`. The file of each
     Sentinel also has `lines`, and the one at a place those of `more`, and that of each data node `store_lines`; `port_password` is the one that its port
-    wants. `priorities` has those of replicas, by node."""
+    wants. `priorities` has those of replicas, by node. With `on_disk` the Sentinels' files are on the system's own disk, in place of memory."""
 
     def __init__(
         self, kinds, nodes=3, after=2000, password=None, quorum=None, timeout=10_000, own=None, replicaof=None, has_fsync=False, lines=(), more=None, port_password=None, priorities=None,
-        store_lines=(),
+        store_lines=(), on_disk=False,
     ):
         self.kinds, self.after, self.password, self.timeout = list(kinds), after, password, timeout
         self.quorum, self.own_settings, self.replicaof = quorum or len(kinds) // 2 + 1, own or {}, replicaof
         self.lines, self.more, self.port_password = list(lines), more or {}, port_password
-        self.priorities, self.store_lines = priorities or {}, list(store_lines)
+        self.priorities, self.store_lines, self.on_disk = priorities or {}, list(store_lines), on_disk
         self.stores, self.sentinels = [f"d{number}" for number in range(nodes)], [f"s{place}" for place in range(len(kinds))]
         self.names = [*self.stores, *self.sentinels, OBSERVER]
         self.folder = tempfile.mkdtemp(prefix="netlab-")
@@ -218,7 +218,8 @@ class Lab:
         path = self.conf_path(name)
         if not os.path.exists(path):
             os.makedirs(os.path.dirname(path), exist_ok=True)
-            self.disks[name] = disks.Disk(os.path.dirname(path))
+            if not self.on_disk:
+                self.disks[name] = disks.Disk(os.path.dirname(path))
             with open(path, "w", encoding="ascii") as out:
                 out.write("\n".join(self._lines(self.sentinels.index(name))) + "\n")
         return [*WATCH, path] if self.kind(name) == "ours" else ["redis-sentinel", path]

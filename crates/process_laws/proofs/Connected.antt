@@ -19,8 +19,7 @@ use Rattle.ballot_law.specs.declared.messages.Output.TheVariants.{Send}
 use Rattle.ballot_law.specs.declared.steps.KeptText.{KeptText}
 use Rattle.ballot_law.specs.Ballots.{card_of}
 use Rattle.ballot_law.specs.Law.{IsStart, HasOneLeader, HasOneAddress}
-use Rattle.ballot_law.specs.declared.rosters.Member.{Member}
-use Rattle.ballot_law.specs.Rosters.{Roster, size, id_of, no_member, HasDistinctIds}
+use Rattle.ballot_law.specs.Rosters.{Roster, size, id_of, HasDistinctIds}
 use Rattle.ballot_law.specs.Worlds.{World as Group}
 use Rattle.links.specs.declared.sessions.questions.Question.{Question}
 use Rattle.links.specs.Sessions.Links.{Tells as LinkTells}
@@ -35,6 +34,7 @@ use Rattle.sentinel_rules.specs.Plans.{Plan, roster_of, me, group_size}
 use Rattle.process_laws.specs.Actions.{Action, Opened, Took, Told, Process, IsOpened, IsHeard, file_after, sent_by, action_after, actions_after, all_sent, all_said, all_elected, AreActions, at_first, FilesNeverFall, StoredIsFiled}
 use Rattle.process_laws.specs.Connections.{IsAskable, IsDelivered, port_answer}
 use Rattle.process_laws.specs.Connected.{Deed, Takes, Tells, Life, history_of, filed, file_of, IsOfMasters, AreLives, action_of, actions_of, LinkWord, Says, AsksRow, IsAskableWord, IsAboutOne, IsAnsweredRow, TellsOfRunIds, HasAnswered, IsCarried, IsHeardFrom, MayTake, ConnectedProcessesAreSafe}
+use Rattle.process_laws.specs.Differing.{HaveSameIds}
 use Rattle.process_laws.specs.HeardAnswers.{IsOfOneMaster}
 use Rattle.process_laws.specs.OwnActions.{AreOwnActions, HearWell}
 use Rattle.process_laws.proofs.HeardAnswers.{answers_are_heard}
@@ -180,10 +180,10 @@ module _ (roster : Roster) (plan : Plan) (stores : ℕ) (before : List Action) (
   -- who has the run id is the Sentinel that was meant
   met : HasDistinctIds roster → me h.start.plan ≡ id_of roster k → h.start.plan.place < group_size h.start.plan → k ≡ h.start.plan.place
   met ids is low =
-      let sentinels : (roster_of h.start.plan).sentinels ≡ roster.sentinels = c.roster_is.0 in
-      let within : h.start.plan.place < size roster = subst (λ (l : List Member). h.start.plan.place < length l) sentinels low in
-      let own : id_of roster h.start.plan.place ≡ id_of roster k =
-      sym (ap (λ (l : List Member). (slice_index_or l h.start.plan.place no_member).id) sentinels) ∙ is in sym (ids h.start.plan.place k within h.within own)
+      let sentinels : HaveSameIds (roster_of h.start.plan) roster = c.roster_is.0 in
+      let within : h.start.plan.place < size roster = subst (λ (n : ℕ). h.start.plan.place < n) sentinels.0 low in
+      let own : id_of roster h.start.plan.place ≡ id_of roster k = sym (sentinels.1 h.start.plan.place) ∙ is in
+      sym (ids h.start.plan.place k within h.within own)
 
   over_connection : HasDistinctIds roster → IsHeard plan stores (all_sent before) i event
   over_connection ids =

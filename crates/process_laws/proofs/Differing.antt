@@ -1,6 +1,6 @@
 -- What a Sentinel may do by its own roster it may do by one that has all lists.
-use Rattle.std.proofs.Common.{◌≡◌, ◌≢◌, ℕ, zero, suc, ◌+◌, ◌/◌, ◌<◌, true, false, Some, None, Option, List, [], ◌∷◌, ◌++◌, length, refl, sym, ap, subst, ◌∙◌, inl, inr, ⊎_elim}
-use Rattle.std.specs.Prelude.{All, Contains, ◌⊎◌, max, replicate, slice_index_or, slice_get}
+use Rattle.std.proofs.Common.{◌≡◌, ◌≢◌, ℕ, zero, suc, ◌+◌, ◌/◌, ◌<◌, true, false, Some, None, Option, List, [], ◌∷◌, ◌++◌, length, refl, sym, ap, subst, ◌∙◌, inl, inr, ⊎_elim, arith}
+use Rattle.std.specs.Prelude.{◌≤◌, All, Contains, ◌⊎◌, max, replicate, slice_index_or, slice_get}
 use Rattle.std.specs.List.{list_any, AllZip}
 use Rattle.std.proofs.lemmas.List.Elements.{All-weaker}
 use Rattle.std.proofs.lemmas.List.Folds.{list_any_at}
@@ -20,15 +20,15 @@ use Rattle.ballot_law.specs.declared.messages.NodeName.TheVariants.{SentinelAt, 
 use Rattle.ballot_law.specs.declared.messages.Output.{Output}
 use Rattle.ballot_law.specs.declared.messages.Output.TheVariants.{Send, Tell}
 use Rattle.ballot_law.specs.declared.replies.Hello.{Hello}
-use Rattle.ballot_law.specs.declared.rosters.Member.{Member}
 use Rattle.ballot_law.specs.declared.steps.Step.{Step}
 use Rattle.ballot_law.specs.declared.steps.Step.TheVariants.{Take, Deliver, Store, StoreRefused, Release, Stop, Start, Answer as AnswerStep}
 use Rattle.ballot_law.specs.Ballots.{Parts, Ballot, Raise, Open, Cast, Hear, Win_at, Choose, Enact, Adopt, Drop, ShowsCard, HasVoted, IsAllowed, Moved, after, empty, open_of, voted_of, candidate_of, card_of, vote}
 use Rattle.ballot_law.specs.Law.{IsWellFormed, IsFresh, IsStart}
 use Rattle.ballot_law.specs.Messages.{shown_by, advertised, advertised_by, Delivers, IsFor}
 use Rattle.ballot_law.specs.Orders.{same_addr, same_bytes}
-use Rattle.ballot_law.specs.Rosters.{Roster, MasterPlan, HasNode, HasDistinctIds, AtLeast, size, need, id_of, master_at, master_named, number_named, no_master, no_member}
+use Rattle.ballot_law.specs.Rosters.{Roster, MasterPlan, HasNode, HasDistinctIds, AtLeast, size, need, id_of, master_at, master_named, number_named, no_master}
 use Rattle.ballot_law.specs.Worlds.{World as Group, Sentinel, Ready, Stopped, sentinel_at, with_sentinel, started, Choice, IsChoice, IsRightOutput, IsAt, OrNothing, Takes, Releases, Starts, Answers, AnswersNow, IsDelivered, Steps, Move, StepOf, LateAnswer, Moves, Joined, stores_of, after_answer, after_release, released, said_by}
+use Rattle.ballot_law.proofs.Counting.{AtLeast-fewer}
 use Rattle.sentinel_rules.proofs.Choices.{same_addr-equal, same_addr-same}
 use Rattle.process_laws.specs.Differing.{IsMasterWithin, DifferInNodes, JoinedByOwn, OwnListsAreARun}
 
@@ -37,12 +37,15 @@ use Rattle.process_laws.specs.Differing.{IsMasterWithin, DifferInNodes, JoinedBy
 abbrev Within : List MasterPlan → List MasterPlan → Type 0
 Within xs ys = AllZip IsMasterWithin xs ys
 
-quorum_is : (xs ys : List MasterPlan) (m : ℕ) → Within xs ys → (slice_index_or xs m no_master).quorum ≡ (slice_index_or ys m no_master).quorum
-quorum_is [] [] m z = refl
-quorum_is [] (y ∷ ys) m z = absurd z
-quorum_is (x ∷ xs) [] m z = absurd z
-quorum_is (x ∷ xs) (y ∷ ys) zero z = z.0.quorum
-quorum_is (x ∷ xs) (y ∷ ys) (suc m) z = quorum_is xs ys m z.1
+least_max : (a b c : ℕ) → c ≤ b → max a c ≤ max a b
+least_max a b c le = omega arith
+
+least_quorum : (xs ys : List MasterPlan) (m : ℕ) → Within xs ys → (slice_index_or ys m no_master).quorum ≤ (slice_index_or xs m no_master).quorum
+least_quorum [] [] m z = omega arith
+least_quorum [] (y ∷ ys) m z = absurd z
+least_quorum (x ∷ xs) [] m z = absurd z
+least_quorum (x ∷ xs) (y ∷ ys) zero z = z.0.quorum
+least_quorum (x ∷ xs) (y ∷ ys) (suc m) z = least_quorum xs ys m z.1
 
 abbrev Lists : List Addr → Addr → Type 0
 Lists nodes addr = list_any (same_addr addr) nodes ≡ true
@@ -80,16 +83,16 @@ module _ (own whole : Roster) (d : DifferInNodes own whole) where
   as_long = sym (AllZip-long IsMasterWithin own.masters whole.masters d.1)
 
   pub as_many : size own ≡ size whole
-  as_many = ap (λ (l : List Member). length l) d.0
+  as_many = d.0.0
 
   pub same_id_of : (i : ℕ) → id_of own i ≡ id_of whole i
-  same_id_of i = ap (λ (l : List Member). (slice_index_or l i no_member).id) d.0
+  same_id_of i = d.0.1 i
 
-  same_quorum : (m : ℕ) → (master_at own m).quorum ≡ (master_at whole m).quorum
-  same_quorum m = quorum_is own.masters whole.masters m d.1
-
-  same_need : (m : ℕ) → need own m ≡ need whole m
-  same_need m = λ j. max (as_many j / 2 + 1) (same_quorum m j)
+  -- the majority is the same, and the quorum of the whole is no greater
+  least_need : (m : ℕ) → need whole m ≤ need own m
+  least_need m =
+      subst (λ (n : ℕ). max (n / 2 + 1) (master_at whole m).quorum ≤ need own m) as_many
+      (least_max (size own / 2 + 1) (master_at own m).quorum (master_at whole m).quorum (least_quorum own.masters whole.masters m d.1))
 
   has_node : (m : ℕ) (addr : Addr) → HasNode own m addr → HasNode whole m addr
   has_node m addr h = listed_at own.masters whole.masters m addr d.1 h
@@ -112,7 +115,9 @@ module _ (own whole : Roster) (d : DifferInNodes own whole) where
       AtLeast (λ v. Contains (open_of parts m).heard (vote v m e x.0) ⊎ ((v ≡ i) × (voted_of parts.kept m ≡ e) × (candidate_of parts m ≡ Some x.0))) x.1 x.2
 
   enough : (i : ℕ) (parts : Parts) (m e : ℕ) → AtLeast (HasVoted own i parts m e) (size own) (need own m) → AtLeast (HasVoted whole i parts m e) (size whole) (need whole m)
-  enough i parts m e h = subst (Count i parts m e) (λ j. (same_id_of i j, as_many j, same_need m j)) h
+  enough i parts m e h =
+      AtLeast-fewer (HasVoted whole i parts m e) (size whole) (need whole m) (need own m) (least_need m)
+      (subst (Count i parts m e) (λ j. (same_id_of i j, as_many j, need own m)) h)
 
   pub allowed : (i : ℕ) (event : Event) (parts : Parts) (ballot : Ballot) → IsAllowed own i event parts ballot → IsAllowed whole i event parts ballot
   allowed i event parts (Raise e) a = a
@@ -304,10 +309,10 @@ module _ (own whole : Roster) (d : DifferInNodes own whole) where
 
 within_itself : (xs : List MasterPlan) → Within xs xs
 within_itself [] = tt
-within_itself (x ∷ xs) = (record { name = refl; quorum = refl; nodes = λ addr h. h }, within_itself xs)
+within_itself (x ∷ xs) = (record { name = refl; quorum = omega arith; nodes = λ addr h. h }, within_itself xs)
 
 pub same_differs : (one other : Roster) → one ≡ other → DifferInNodes one other
-same_differs one other e = subst (λ (r : Roster). DifferInNodes one r) e (refl, within_itself one.masters)
+same_differs one other e = subst (λ (r : Roster). DifferInNodes one r) e ((refl, λ i. refl), within_itself one.masters)
 
 runs_by_own : (whole : Roster) (moves : List Move) (start last : Group) → JoinedByOwn whole moves start last → Joined whole moves start last
 runs_by_own whole [] start last h = h

@@ -60,7 +60,7 @@ old_is_roster =
 -- a list of the master and one replica, of which the other list has both
 within : (port : ℕ) (others : List ℕ) → Contains (master_at (with_nodes others) 0).nodes (local 6379) → Contains (master_at (with_nodes others) 0).nodes (local port) →
     DifferInNodes (with_nodes (6379 ∷ port ∷ [])) (with_nodes others)
-within port others one two = (refl, (record { name = refl; quorum = refl; nodes = each }, tt))
+within port others one two = ((refl, λ i. refl), (record { name = refl; quorum = omega arith; nodes = each }, tt))
   where
     each : (addr : Addr) → Contains (local 6379 ∷ local port ∷ []) addr → Contains (master_at (with_nodes others) 0).nodes addr
     each addr (zero, low, e) = subst (Contains (master_at (with_nodes others) 0).nodes) e one

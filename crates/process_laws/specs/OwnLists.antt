@@ -12,7 +12,7 @@ use Rattle.sentinel_conf.specs.Facts.{IsSoundConf}
 use Rattle.sentinel_conf.specs.Meaning.{ConfPlan}
 use Rattle.sentinel_rules.specs.Plans.{Plan, nodes_of, master_count}
 use Rattle.process_laws.specs.Actions.{Action, AreActions, actions_after, at_first}
-use Rattle.process_laws.specs.Differing.{DifferInNodes}
+use Rattle.process_laws.specs.Differing.{DifferInNodes, HaveSameIds}
 
 -- this plan's list of the master has the configuration's address
 abbrev pub IsListed : Plan → (m : ℕ) → Kept → Type 0
@@ -33,13 +33,13 @@ ListsAreKept =
     KeepsTo (actions_after (at_first start) actions i).world.plan (actions_after (at_first start) actions i).world m
 
 abbrev pub IsSameMaster : MasterPlan → MasterPlan → Type 0
-IsSameMaster one other = (one.name ≡ other.name) × (one.quorum ≡ other.quorum)
+IsSameMaster one other = one.name ≡ other.name
 
--- the same Sentinels and masters in the same order; of the data nodes nothing is asked
+-- Sentinels with the same run ids, and masters with the same names, in the same order; of data nodes, quorums and addresses of Sentinels nothing is asked
 abbrev pub AreSameButForNodes : Roster → Roster → Type 0
-AreSameButForNodes one other = (one.sentinels ≡ other.sentinels) × AllZip IsSameMaster one.masters other.masters
+AreSameButForNodes one other = HaveSameIds one other × AllZip IsSameMaster one.masters other.masters
 
--- such rosters differ in data nodes alone from one that has all lists
+-- such rosters differ in data nodes, quorums and addresses of Sentinels alone from one that has all lists, and the least quorums
 abbrev pub ListsHaveAUnion : Type 0
 ListsHaveAUnion =
     (first : Roster) (others : List Roster) →

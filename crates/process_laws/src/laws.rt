@@ -14,9 +14,10 @@ ghost use Rattle.process_laws.specs.TwoProcesses.{ActionsHappen};
 ghost use Rattle.process_laws.specs.Watched.{WatchedAreConnected, WatchedAreSafe};
 
 /// What the processes of a group did, in an order in which each answer and each hello is heard after the release that
-/// sent it, is a run of the model: with the same elections, in which the Sentinels said the same, and which leaves
-/// each of them as its own history does. What a Sentinel takes no notice of, as a hello of nobody of the group, may
-/// come from anybody. Their files may name different data nodes, each a part of those of the roster, and none else.
+/// sent it, is a run of the model: with the same elections, in which the Sentinels said the same, and which leaves each
+/// of them as its own history does. What a Sentinel takes no notice of, as a hello of nobody of the group, may come
+/// from anybody. Their files may name different data nodes, each a part of those of the roster, quorums at least as
+/// great as its own, and other addresses of Sentinels.
 pub fn law_processes_are_a_run()
     ensures { ProcessesAreARun }
 {}

@@ -5,14 +5,16 @@ ghost use Rattle.process_laws.specs.GroupStarts.{OwnListsAreAStart};
 ghost use Rattle.process_laws.specs.OwnLists.{ListsAreKept, ListsHaveAUnion, NumbersFit};
 ghost use Rattle.process_laws.specs.TwoLists.{ListsMayDiffer};
 
-/// Moves that go each by a roster of its own are a run of the model, where those rosters differ from one in data nodes
-/// alone: so the laws of the model hold of them. A start by one of these rosters is one by that.
+/// Moves that go each by a roster of its own are a run of the model, where those rosters differ from one in data nodes,
+/// quorums and addresses of Sentinels alone, and it has all nodes and the least quorums: so the laws of the model hold
+/// of them. A start by one of these rosters is one by that.
 pub fn law_own_lists_are_a_run()
     ensures { OwnListsAreARun }
 {}
 
-/// Files that differ in data nodes alone are where the laws of processes begin: with a roster that has all their lists,
-/// the data nodes of that, and in each Sentinel's file what its own one of them holds.
+/// Files that differ in data nodes, quorums and addresses of Sentinels alone are where the laws of processes begin:
+/// with a roster that has all their lists and the least quorums, the data nodes of that, and in each Sentinel's file
+/// what its own one of them holds.
 pub fn law_own_lists_are_a_start()
     ensures { OwnListsAreAStart }
 {}
@@ -32,8 +34,8 @@ pub fn law_lists_are_kept()
     ensures { ListsAreKept }
 {}
 
-/// Rosters of the same Sentinels, and of the same masters with the same quorums, differ in data nodes alone from one
-/// that has all their lists: so of lists themselves nothing is asked.
+/// Rosters of Sentinels with the same run ids, and of masters with the same names, differ so from one that has all
+/// their lists and the least quorums: so of lists, quorums and addresses of Sentinels nothing is asked.
 pub fn law_lists_have_a_union()
     ensures { ListsHaveAUnion }
 {}

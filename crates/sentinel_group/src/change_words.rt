@@ -1,6 +1,6 @@
 //! The words of `change`, and the change that they ask for.
 
-use crate::command_line::{REFUSED_WORDS, new_master_words};
+use crate::command_line::{DOWN_AFTER_LEAST, REFUSED_WORDS, new_master_words};
 use crate::new_groups::{
     NAMES, Named, address_of, master_of as added, new_master, random_id, refuse_shared, refuse_word,
 };
@@ -31,6 +31,10 @@ const CHANGES: &[&str] = &[
     "replace-host",
     "set",
 ];
+
+/// What to say of a word that is no value of a setting.
+const VALUES: &str =
+    "write a number of at most 4294967295, and for down-after-milliseconds of 100 or more";
 
 /// The words that say more of a master that is added.
 const OF_NEW_MASTER: &[&str] = &["replica", "quorum", "down-after", "auth-pass-file"];
@@ -224,16 +228,15 @@ fn setting_of(rt: HostRuntime, word: &str) -> Result<MasterSetting, ExitCode> {
     }
 }
 
-/// The value that the word spells.
-fn value_of(rt: HostRuntime, word: &str) -> Result<u32, ExitCode> {
-    match number_of(word.as_bytes(), 0, VALUE_MAX) {
+/// The value of a setting that the word spells.
+fn value_of(rt: HostRuntime, setting: MasterSetting, word: &str) -> Result<u32, ExitCode> {
+    let least = match setting {
+        MasterSetting::DownAfter => u64::from(DOWN_AFTER_LEAST),
+        _ => 0,
+    };
+    match number_of(word.as_bytes(), least, VALUE_MAX) {
         Some(number) => Ok(number as u32),
-        None => Err(refuse_word(
-            rt,
-            "BadNumber",
-            word,
-            "write a number of at most 4294967295",
-        )),
+        None => Err(refuse_word(rt, "BadNumber", word, VALUES)),
     }
 }
 
@@ -261,7 +264,7 @@ fn new_setting(
     value: &str,
 ) -> Result<NewSetting, ExitCode> {
     let setting = setting_of(rt, directive)?;
-    let value = value_of(rt, value)?;
+    let value = value_of(rt, setting, value)?;
     let master = master_of(rt, words, conf)?;
     Ok(NewSetting {
         master,

@@ -13,6 +13,10 @@ use std::env::{self, Env};
 use std::io;
 use std::process::ExitCode;
 
+/// The least `down-after-milliseconds` of a file for `watch`, in milliseconds, which refuses less by the name
+/// `ShortDownAfter`.
+pub(crate) const DOWN_AFTER_LEAST: u32 = 100;
+
 /// The exit status of refused words.
 pub(crate) const REFUSED_WORDS: u8 = 2;
 
@@ -101,7 +105,7 @@ pub(crate) fn new_master_words<'a>(
     let down_after = Arg::new(alloc, "down-after")
         .long("down-after")
         .value_name("ms")
-        .value_parser(value_parser!(u32).range(1..=4_294_967_295))
+        .value_parser(value_parser!(u32).range(i64::from(DOWN_AFTER_LEAST)..=4_294_967_295))
         .help(
             "After how many milliseconds without an answer a node is down; 5000 where it isn't said",
         );

@@ -1,13 +1,13 @@
 -- Processes that `watch` runs are connected.
-use Rattle.std.proofs.Common.{◌≡◌, ℕ, ◌<◌, ◌⊎◌, inl, inr, ⊎_elim, Bool, false, List, [], ◌∷◌, ◌++◌, length, slice_index_or, Some, sym, ap, ◌∙◌, subst}
+use Rattle.std.proofs.Common.{◌≡◌, ℕ, ◌<◌, ◌⊎◌, inl, inr, ⊎_elim, Bool, false, List, [], ◌∷◌, ◌++◌, Some, sym, ap, ◌∙◌, subst}
 use Rattle.std.specs.List.{AllByRecursion}
 use mathlib.Core.Logic.{∥∥₁_map}
 use Rattle.ballot_law.specs.declared.cards.Kept.{Kept}
 use Rattle.ballot_law.specs.declared.events.Event.{Event}
 use Rattle.ballot_law.specs.declared.messages.NodeName.{NodeName}
 use Rattle.ballot_law.specs.declared.messages.NodeName.TheVariants.{SentinelAt}
-use Rattle.ballot_law.specs.declared.rosters.Member.{Member}
-use Rattle.ballot_law.specs.Rosters.{Roster, size, id_of, no_member}
+use Rattle.ballot_law.specs.declared.addresses.RunId.{RunId}
+use Rattle.ballot_law.specs.Rosters.{Roster, size, id_of}
 use Rattle.ballot_law.specs.Worlds.{World as Group}
 use Rattle.links.specs.declared.target.Target.{Target}
 use Rattle.links.specs.Sessions.Links.{Tells as LinkTells}
@@ -89,8 +89,8 @@ to_sentinel own roster number place target differ is (inl s) =
     let same : place ≡ number = let both = sym s.node ∙ is in cc in
     let here : IsSentinel own number target = subst (λ (p : ℕ). IsSentinel own p target) same s in
     record {
-      within = subst (λ (members : List Member). number < length members) differ.0 here.within;
-      id = subst (λ (members : List Member). target.id ≡ Some (slice_index_or members number no_member).id) differ.0 here.id;
+      within = subst (λ (n : ℕ). number < n) differ.0.0 here.within;
+      id = subst (λ (id : RunId). target.id ≡ Some id) (differ.0.1 number) here.id;
       speaks = here.speaks;
     }
 to_sentinel own roster number place target differ is (inr h) = absurd (let both = sym h.2.node ∙ is in let no : ⊥ = cc in no)
