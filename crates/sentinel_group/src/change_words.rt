@@ -1,6 +1,6 @@
 //! The words of `change`, and the change that they ask for.
 
-use crate::command_line::{DOWN_AFTER_LEAST, REFUSED_WORDS, new_master_words};
+use crate::command_line::{DOWN_AFTER_LEAST, REFUSED_WORDS, many, new_master_words, option};
 use crate::new_groups::{
     NAMES, Named, address_of, master_of as added, new_master, random_id, refuse_shared, refuse_word,
 };
@@ -49,36 +49,28 @@ const MANY: &str = "ManyChanges: name one change: each has steps of its own";
 /// What to say where no change is named.
 const NONE: &str = "NoChange: name one change, as --add-replica 10.0.0.4:6379";
 
-/// A word that names a change of a node, which is named by one value.
-fn node_word<'a>(alloc: Global, long: &'a str, value: &'a str, help: &'a str) -> Arg<'a> {
-    Arg::new(alloc, long)
-        .long(long)
-        .value_name(value)
-        .help(help)
-}
-
 /// The words that name a change of a node.
 fn node_words<'a>(alloc: Global, command: Command<'a>) -> Result<Command<'a>, AllocError> {
     command
-        .arg(node_word(
+        .arg(option(
             alloc,
             "add-replica",
             "ip:port",
             "Adds a replica of the master",
         ))?
-        .arg(node_word(
+        .arg(option(
             alloc,
             "remove-replica",
             "ip:port",
             "Removes a replica of the master",
         ))?
-        .arg(node_word(
+        .arg(option(
             alloc,
             "add-sentinel",
             "ip[:port]",
             "Adds a Sentinel; its port is 26379 where it isn't said",
         ))?
-        .arg(node_word(
+        .arg(option(
             alloc,
             "remove-sentinel",
             "id or ip[:port]",
@@ -88,55 +80,69 @@ fn node_words<'a>(alloc: Global, command: Command<'a>) -> Result<Command<'a>, Al
 
 /// The words that name a change of a master.
 fn master_words<'a>(alloc: Global, command: Command<'a>) -> Result<Command<'a>, AllocError> {
-    let add = Arg::new(alloc, "add-master")
-        .long("add-master")
-        .num_args(2)
-        .value_names(&["name", "ip:port"])
-        .help("Adds a master that all Sentinels watch");
-    let replica = Arg::new(alloc, "replica")
-        .long("replica")
-        .num_args(1..)
-        .action(ArgAction::Append)
-        .value_name("ip:port")
-        .help("The address of each replica of a master that is added");
-    let remove = Arg::new(alloc, "remove-master")
-        .long("remove-master")
-        .value_name("name")
-        .help("Removes a master, which nobody watches then");
-    let command = command.arg(add)?.arg(replica)?;
-    new_master_words(alloc, command)?.arg(remove)
+    let command = command
+        .arg(
+            Arg::new(alloc, "add-master")
+                .long("add-master")
+                .num_args(2)
+                .value_names(&["name", "ip:port"])
+                .help("Adds a master that all Sentinels watch"),
+        )?
+        .arg(
+            option(
+                alloc,
+                "replica",
+                "ip:port",
+                "The address of each replica of a master that is added",
+            )
+            .num_args(1..)
+            .action(ArgAction::Append),
+        )?;
+    new_master_words(alloc, command)?.arg(option(
+        alloc,
+        "remove-master",
+        "name",
+        "Removes a master, which nobody watches then",
+    ))
 }
 
 /// The words of `change`.
 pub(crate) fn change_command<'a>(alloc: Global) -> Result<Command<'a>, AllocError> {
-    let folder = Arg::new(alloc, "folder").required(true).help(
-        "The folder for the new files, which is made; one that is there has to be empty",
-    );
-    let files = Arg::new(alloc, "conf")
-        .required(true)
-        .num_args(1..)
-        .action(ArgAction::Append)
-        .help("The sentinel.conf of each Sentinel, or a copy of it");
-    let master = Arg::new(alloc, "master")
-        .long("master")
-        .value_name("name")
-        .help("Which master is changed, where the files name more than one");
-    let host = Arg::new(alloc, "replace-host")
-        .long("replace-host")
-        .num_args(2)
-        .value_names(&["old ip", "new ip"])
-        .help("Puts a host in the place of one: its replicas, and a Sentinel with a new run id");
-    let set = Arg::new(alloc, "set")
-        .long("set")
-        .num_args(2)
-        .value_names(&["directive", "value"])
-        .help("Sets quorum, down-after-milliseconds, failover-timeout or parallel-syncs");
     let command = Command::new(alloc, "change")
         .about("Writes the files of a group anew with one change, and prints the steps to it")
-        .arg(folder)?
-        .arg(files)?
-        .arg(master)?;
-    let command = node_words(alloc, command)?.arg(host)?.arg(set)?;
+        .arg(
+            Arg::new(alloc, "folder").required(true).help(
+                "The folder for the new files, which is made; one that is there has to be empty",
+            ),
+        )?
+        .arg(many(
+            alloc,
+            "conf",
+            "The sentinel.conf of each Sentinel, or a copy of it",
+        ))?
+        .arg(option(
+            alloc,
+            "master",
+            "name",
+            "Which master is changed, where the files name more than one",
+        ))?;
+    let command = node_words(alloc, command)?
+        .arg(
+            Arg::new(alloc, "replace-host")
+                .long("replace-host")
+                .num_args(2)
+                .value_names(&["old ip", "new ip"])
+                .help(
+                    "Puts a host in the place of one: its replicas, and a Sentinel with a new run id",
+                ),
+        )?
+        .arg(
+            Arg::new(alloc, "set")
+                .long("set")
+                .num_args(2)
+                .value_names(&["directive", "value"])
+                .help("Sets quorum, down-after-milliseconds, failover-timeout or parallel-syncs"),
+        )?;
     master_words(alloc, command)
 }
 

@@ -167,28 +167,21 @@ fn steps_of(
     Ok(steps)
 }
 
-/// Writes the files of the changed group into a new folder, or one that is empty, and prints the steps.
-fn made(rt: HostRuntime, words: &ArgMatches) -> Result<(), ExitCode> {
-    let folder = words.get_str("folder").unwrap_or("");
-    let files = confs_of(rt, words.get_strs("conf").unwrap_or(&[]))?;
-    let Some(first) = files.first() else {
-        return Err(fail_group(&rt, GroupFault::NotOneRoster));
-    };
-    let change = change_of(rt, words, &first.conf)?;
-    let texts = match changed_texts(rt.alloc(), files.as_slice(), &change) {
+/// Writes these files, changed, into a new folder, or one that is empty, and prints the steps.
+fn make(
+    rt: HostRuntime,
+    folder: &str,
+    files: &[NamedConf],
+    change: &Change,
+) -> Result<(), ExitCode> {
+    let texts = match changed_texts(rt.alloc(), files, change) {
         Ok(texts) => texts,
         Err(fault) => return Err(refuse_change(rt, fault)),
     };
     let confs = read_texts(rt, texts.as_slice())?;
-    let news = new_files(rt, files.as_slice(), texts.as_slice(), confs.as_slice())?;
+    let news = new_files(rt, files, texts.as_slice(), confs.as_slice())?;
     refuse_unreached(rt, news.as_slice(), confs.as_slice())?;
-    let steps = steps_of(
-        rt,
-        &change,
-        files.as_slice(),
-        news.as_slice(),
-        confs.as_slice(),
-    )?;
+    let steps = steps_of(rt, change, files, news.as_slice(), confs.as_slice())?;
     if let Err(error) = write_folder(rt, folder, news.as_slice()) {
         return Err(refuse_folder(rt, folder, error));
     }
@@ -196,6 +189,19 @@ fn made(rt: HostRuntime, words: &ArgMatches) -> Result<(), ExitCode> {
         Ok(()) => Ok(()),
         Err(_) => Err(fail(&rt, ServeFault::Write)),
     }
+}
+
+/// Makes the change of the words in the files that they name.
+fn made(rt: HostRuntime, words: &ArgMatches) -> Result<(), ExitCode> {
+    let files = confs_of(rt, words.get_strs("conf").unwrap_or(&[]))?;
+    let Some(first) = files.first() else {
+        return Err(fail_group(&rt, GroupFault::NotOneRoster));
+    };
+    let change = change_of(rt, words, &first.conf)?;
+    let folder = words.get_str("folder").unwrap_or("");
+    let made = make(rt, folder, files.as_slice(), &change);
+    drop(change);
+    made
 }
 
 /// Writes the files of a changed group, or none of them, and then the status and a line tell why.

@@ -32,9 +32,17 @@ pub(crate) fn conf_at(rt: HostRuntime, path: &str) -> Result<(FileText, Conf), E
 /// What the file at the path says, with its name.
 fn named_conf(rt: HostRuntime, path: &str) -> Result<NamedConf, ExitCode> {
     let (_, conf) = conf_at(rt, path)?;
+    with_name(rt, path, conf)
+}
+
+/// A conf with the path of its file.
+fn with_name(rt: HostRuntime, path: &str, conf: Conf) -> Result<NamedConf, ExitCode> {
     match String::from_str(rt.alloc(), path) {
         Ok(name) => Ok(NamedConf { name, conf }),
-        Err(_) => Err(fail(&rt, ServeFault::NoMemory)),
+        Err(_) => {
+            drop(conf);
+            Err(fail(&rt, ServeFault::NoMemory))
+        }
     }
 }
 
@@ -104,19 +112,28 @@ fn write_report(rt: HostRuntime, report: &Report) -> Result<(), ExitCode> {
 /// Tells of which group the file at the path is one, where `watch` takes it, and with status 3 what is wrong with it.
 fn tell_one(rt: HostRuntime, path: &str) -> Result<(), ExitCode> {
     let (text, conf) = conf_at(rt, path)?;
-    if let Err(fault) = read_watch(rt.alloc(), &conf, text.as_slice()) {
-        return Err(refuse_watch(rt, path, &conf, text.as_slice(), fault));
+    match read_watch(rt.alloc(), &conf, text.as_slice()) {
+        Ok(watch) => drop(watch),
+        Err(fault) => {
+            let status = refuse_watch(rt, path, &conf, text.as_slice(), fault);
+            drop(conf);
+            return Err(status);
+        }
     }
-    let Ok(name) = String::from_str(rt.alloc(), path) else {
-        return Err(fail(&rt, ServeFault::NoMemory));
-    };
-    let file = NamedConf { name, conf };
-    let Ok(report) = Report::of_one(rt.alloc(), &file) else {
+    let file = with_name(rt, path, conf)?;
+    let told = tell_alone(rt, &file);
+    drop(file);
+    told
+}
+
+/// Tells of which group this file is one.
+fn tell_alone(rt: HostRuntime, file: &NamedConf) -> Result<(), ExitCode> {
+    let Ok(report) = Report::of_one(rt.alloc(), file) else {
         return Err(fail(&rt, ServeFault::NoMemory));
     };
     write_report(rt, &report)?;
-    tell_file(rt, &file);
-    tell_foreign_ip(rt, &file);
+    tell_file(rt, file);
+    tell_foreign_ip(rt, file);
     Ok(())
 }
 
@@ -133,7 +150,10 @@ fn give_to_redis(rt: HostRuntime, files: &[&str], path: &str) -> ExitCode {
         return ExitCode::from(REFUSED_WORDS);
     };
     match conf_at(rt, file) {
-        Ok((text, _)) => write_for_redis(rt, file, text.as_slice(), path),
+        Ok((text, conf)) => {
+            drop(conf);
+            write_for_redis(rt, file, text.as_slice(), path)
+        }
         Err(status) => status,
     }
 }

@@ -23,41 +23,89 @@ pub(crate) const REFUSED_WORDS: u8 = 2;
 /// The profiles of the Sentinels of a story.
 const PROFILES: [&str; 2] = ["strict", "redis"];
 
-/// The files of a group.
-fn conf_files<'a>(alloc: Global) -> Arg<'a> {
-    Arg::new(alloc, "conf")
+/// A word that is there or isn't.
+fn flag<'a>(alloc: Global, name: &'a str, help: &'a str) -> Arg<'a> {
+    Arg::new(alloc, name)
+        .long(name)
+        .action(ArgAction::SetTrue)
+        .help(help)
+}
+
+/// A word that has one value, which the help names so.
+pub(crate) fn option<'a>(alloc: Global, name: &'a str, value: &'a str, help: &'a str) -> Arg<'a> {
+    Arg::new(alloc, name)
+        .long(name)
+        .value_name(value)
+        .help(help)
+}
+
+/// One or more words that stand alone.
+pub(crate) fn many<'a>(alloc: Global, name: &'a str, help: &'a str) -> Arg<'a> {
+    Arg::new(alloc, name)
         .required(true)
         .num_args(1..)
         .action(ArgAction::Append)
-        .help("The sentinel.conf of each Sentinel")
+        .help(help)
+}
+
+/// The command with this word, unless memory was refused for the word: then the command goes.
+fn with_word<'a>(
+    command: Command<'a>,
+    word: Result<Arg<'a>, AllocError>,
+) -> Result<Command<'a>, AllocError> {
+    match word {
+        Ok(word) => command.arg(word),
+        Err(error) => {
+            drop(command);
+            Err(error)
+        }
+    }
+}
+
+/// The command with this subcommand, unless memory was refused for that: then the command goes.
+fn with_command<'a>(
+    command: Command<'a>,
+    sub: Result<Command<'a>, AllocError>,
+) -> Result<Command<'a>, AllocError> {
+    match sub {
+        Ok(sub) => command.subcommand(sub),
+        Err(error) => {
+            drop(command);
+            Err(error)
+        }
+    }
+}
+
+/// The files of a group.
+fn conf_files<'a>(alloc: Global) -> Arg<'a> {
+    many(alloc, "conf", "The sentinel.conf of each Sentinel")
 }
 
 /// The words of `check`.
 fn check<'a>(alloc: Global) -> Result<Command<'a>, AllocError> {
-    let mend = Arg::new(alloc, "mend")
-        .long("mend")
-        .value_name("folder")
-        .help(
-            "Writes the files anew into this folder, each with the newest configuration of each master, so that \
-            a group goes on with them",
-        );
-    let for_redis = Arg::new(alloc, "for-redis")
-        .long("for-redis")
-        .value_name("file")
-        .help("Writes the text of the one conf that redis-sentinel reads to this new file")
-        .conflicts_with("mend")?;
-    let group = Arg::new(alloc, "group")
-        .long("group")
-        .action(ArgAction::SetTrue)
-        .help("Wants the file of each Sentinel of the group, where one file is named too");
-    Command::new(alloc, "check")
+    let command = Command::new(alloc, "check")
         .about(
             "Tells what group conf files make, or of which one file is, and what is wrong with it",
         )
-        .arg(group)?
-        .arg(mend)?
-        .arg(for_redis)?
-        .arg(conf_files(alloc))
+        .arg(flag(
+            alloc,
+            "group",
+            "Wants the file of each Sentinel of the group, where one file is named too",
+        ))?
+        .arg(option(
+            alloc,
+            "mend",
+            "folder",
+            "Writes the files anew into this folder, each with the newest configuration of each master, so that \
+            a group goes on with them",
+        ))?;
+    let for_redis = option(
+        alloc,
+        "for-redis",
+        "file",
+        "Writes the text of the one conf that redis-sentinel reads to this new file",
+    );
+    with_word(command, for_redis.conflicts_with("mend"))?.arg(conf_files(alloc))
 }
 
 /// The words of `new-id`.
@@ -67,27 +115,29 @@ fn new_id<'a>(alloc: Global) -> Command<'a> {
 
 /// The addresses of a new group.
 fn new_group_addresses<'a>(alloc: Global, group: Command<'a>) -> Result<Command<'a>, AllocError> {
-    let master = Arg::new(alloc, "master")
-        .long("master")
-        .required(true)
-        .num_args(2)
-        .value_names(&["name", "ip:port"])
-        .help("The name and the address of the master");
-    let replica = Arg::new(alloc, "replica")
-        .long("replica")
-        .required(true)
-        .num_args(1..)
-        .action(ArgAction::Append)
-        .value_name("ip:port")
-        .help("The address of each replica");
-    let sentinel = Arg::new(alloc, "sentinel")
-        .long("sentinel")
-        .required(true)
-        .num_args(1..)
-        .action(ArgAction::Append)
-        .value_name("ip[:port]")
-        .help("The address of each Sentinel; its port is 26379 where it isn't said");
-    group.arg(master)?.arg(replica)?.arg(sentinel)
+    group
+        .arg(
+            Arg::new(alloc, "master")
+                .long("master")
+                .required(true)
+                .num_args(2)
+                .value_names(&["name", "ip:port"])
+                .help("The name and the address of the master"),
+        )?
+        .arg(
+            many(alloc, "replica", "The address of each replica")
+                .long("replica")
+                .value_name("ip:port"),
+        )?
+        .arg(
+            many(
+                alloc,
+                "sentinel",
+                "The address of each Sentinel; its port is 26379 where it isn't said",
+            )
+            .long("sentinel")
+            .value_name("ip[:port]"),
+        )
 }
 
 /// The words that say more of a new master.
@@ -95,35 +145,38 @@ pub(crate) fn new_master_words<'a>(
     alloc: Global,
     command: Command<'a>,
 ) -> Result<Command<'a>, AllocError> {
-    let quorum = Arg::new(alloc, "quorum")
-        .long("quorum")
-        .value_name("number")
-        .value_parser(value_parser!(u32))
-        .help(
+    command
+        .arg(option(
+            alloc,
+            "quorum",
+            "number",
             "How many Sentinels have to find the master down; more than half of them where it isn't said",
-        );
-    let down_after = Arg::new(alloc, "down-after")
-        .long("down-after")
-        .value_name("ms")
-        .value_parser(value_parser!(u32).range(i64::from(DOWN_AFTER_LEAST)..=4_294_967_295))
-        .help(
+        )
+        .value_parser(value_parser!(u32)))?
+        .arg(option(
+            alloc,
+            "down-after",
+            "ms",
             "After how many milliseconds without an answer a node is down; 5000 where it isn't said",
-        );
-    let password = Arg::new(alloc, "auth-pass-file")
-        .long("auth-pass-file")
-        .value_name("file")
-        .help("The file with the password of the data nodes, a line");
-    command.arg(quorum)?.arg(down_after)?.arg(password)
+        )
+        .value_parser(value_parser!(u32).range(i64::from(DOWN_AFTER_LEAST)..=4_294_967_295)))?
+        .arg(option(
+            alloc,
+            "auth-pass-file",
+            "file",
+            "The file with the password of the data nodes, a line",
+        ))
 }
 
 /// The words of `new-group`.
 fn new_group<'a>(alloc: Global) -> Result<Command<'a>, AllocError> {
-    let folder = Arg::new(alloc, "folder").required(true).help(
-        "The folder for the files, which is made; one that is there has to be empty",
-    );
     let group = Command::new(alloc, "new-group")
         .about("Writes the sentinel.conf of each Sentinel of a new group, with new run ids")
-        .arg(folder)?;
+        .arg(
+            Arg::new(alloc, "folder").required(true).help(
+                "The folder for the files, which is made; one that is there has to be empty",
+            ),
+        )?;
     new_master_words(alloc, new_group_addresses(alloc, group)?)
 }
 
@@ -143,181 +196,167 @@ pub(crate) fn port_threads_of(words: &ArgMatches) -> u16 {
 
 /// The words of `serve`.
 fn serve<'a>(alloc: Global) -> Result<Command<'a>, AllocError> {
-    let notes = Arg::new(alloc, "notes")
-        .long("notes")
-        .action(ArgAction::SetTrue)
-        .help("Notes on standard error what the Sentinels find, as +switch-master");
-    let close_halted = Arg::new(alloc, "close-halted")
-        .long("close-halted")
-        .action(ArgAction::SetTrue)
-        .help(
-            "Closes the port of a Sentinel whose file can't be written, so that clients ask another one",
-        );
-    let compatible = Arg::new(alloc, "compatible")
-        .long("compatible")
-        .action(ArgAction::SetTrue)
-        .help(
-            "Answers what client libraries send beside a Sentinel's commands, as HELLO, CLIENT and INFO",
-        );
-    let until_killed = Arg::new(alloc, "until-killed")
-        .long("until-killed")
-        .action(ArgAction::SetTrue)
-        .help(
-            "Reads no standard input, and runs until a signal ends it: for supervisors, containers and nohup",
-        );
-    let real_nodes = Arg::new(alloc, "real-nodes")
-        .long("real-nodes")
-        .action(ArgAction::SetTrue)
-        .help(
-            "Has the data nodes listen at their addresses on the loopback, and answer PING, INFO, ROLE and REPLICAOF there",
-        );
     Command::new(alloc, "serve")
         .about("Runs a group of Sentinels with their ports at 127.0.0.1, until standard input ends")
-        .arg(notes)?
+        .arg(flag(
+            alloc,
+            "notes",
+            "Notes on standard error what the Sentinels find, as +switch-master",
+        ))?
         .arg(port_threads(alloc))?
-        .arg(close_halted)?
-        .arg(compatible)?
-        .arg(until_killed)?
-        .arg(real_nodes)?
+        .arg(flag(
+            alloc,
+            "close-halted",
+            "Closes the port of a Sentinel whose file can't be written, so that clients ask another one",
+        ))?
+        .arg(flag(
+            alloc,
+            "compatible",
+            "Answers what client libraries send beside a Sentinel's commands, as HELLO, CLIENT and INFO",
+        ))?
+        .arg(flag(
+            alloc,
+            "until-killed",
+            "Reads no standard input, and runs until a signal ends it: for supervisors, containers and nohup",
+        ))?
+        .arg(flag(
+            alloc,
+            "real-nodes",
+            "Has the data nodes listen at their addresses on the loopback, and answer PING, INFO, ROLE and REPLICAOF there",
+        ))?
         .arg(conf_files(alloc))
 }
 
 /// The words of `status` that say where passwords are.
 fn status_passwords<'a>(alloc: Global, status: Command<'a>) -> Result<Command<'a>, AllocError> {
-    let of_ports = Arg::new(alloc, "pass-file")
-        .long("pass-file")
-        .value_name("file")
-        .help(
+    status
+        .arg(option(
+            alloc,
+            "pass-file",
+            "file",
             "The file with the password of the Sentinels' ports, a line, where the conf has none",
-        );
-    let of_nodes = Arg::new(alloc, "auth-pass-file")
-        .long("auth-pass-file")
-        .value_name("file")
-        .help("The file with the password of the data nodes, a line, where the conf has none");
-    status.arg(of_ports)?.arg(of_nodes)
+        ))?
+        .arg(option(
+            alloc,
+            "auth-pass-file",
+            "file",
+            "The file with the password of the data nodes, a line, where the conf has none",
+        ))
 }
 
 /// The words of `status`.
 fn status<'a>(alloc: Global) -> Result<Command<'a>, AllocError> {
-    let wait = Arg::new(alloc, "wait")
-        .long("wait")
-        .value_name("seconds")
-        .value_parser(value_parser!(u32))
-        .help("Looks again each half second until the group is well, for so many seconds at most");
-    let watch = Arg::new(alloc, "watch")
-        .long("watch")
-        .action(ArgAction::SetTrue)
-        .help("Looks again each second, until a signal ends it")
-        .conflicts_with("wait")?;
-    let json = Arg::new(alloc, "json")
-        .long("json")
-        .action(ArgAction::SetTrue)
-        .help("Prints the same as one JSON object in one line");
-    let group = Arg::new(alloc, "group")
-        .required(true)
-        .num_args(1..)
-        .action(ArgAction::Append)
-        .value_name("conf or ip:port")
-        .help(
-            "The sentinel.conf of a Sentinel, or addresses of Sentinels; the port is 26379 where it isn't said",
-        );
+    let wait = option(
+        alloc,
+        "wait",
+        "seconds",
+        "Looks again each half second until the group is well, for so many seconds at most",
+    );
     let status = Command::new(alloc, "status")
         .about("Asks all nodes of a group that runs, and tells what isn't well, and what to do")
-        .arg(wait)?
-        .arg(watch)?
-        .arg(json)?;
-    status_passwords(alloc, status)?.arg(group)
+        .arg(wait.value_parser(value_parser!(u32)))?;
+    let watch = flag(
+        alloc,
+        "watch",
+        "Looks again each second, until a signal ends it",
+    );
+    let status = with_word(status, watch.conflicts_with("wait"))?.arg(flag(
+        alloc,
+        "json",
+        "Prints the same as one JSON object in one line",
+    ))?;
+    status_passwords(alloc, status)?.arg(many(
+        alloc,
+        "group",
+        "The sentinel.conf of a Sentinel, or addresses of Sentinels; the port is 26379 where it isn't said",
+    )
+    .value_name("conf or ip:port"))
 }
 
 /// The words of `watch`.
 fn watch<'a>(alloc: Global) -> Result<Command<'a>, AllocError> {
-    let quiet = Arg::new(alloc, "quiet")
-        .long("quiet")
-        .action(ArgAction::SetTrue)
-        .help("Notes on standard error warnings alone, and why it ends");
-    let times = Arg::new(alloc, "times")
-        .long("times")
-        .action(ArgAction::SetTrue)
-        .help(
-            "Begins each note with the time, as without this word where standard error isn't systemd's journal",
-        );
-    let no_times = Arg::new(alloc, "no-times")
-        .long("no-times")
-        .action(ArgAction::SetTrue)
-        .help("Begins no note with the time")
-        .conflicts_with("times")?;
-    let ready_file = Arg::new(alloc, "ready-file")
-        .long("ready-file")
-        .value_name("file")
-        .help("Makes this file once the port is open, and removes it at the end: for supervisors");
-    let conf = Arg::new(alloc, "conf")
-        .required(true)
-        .help("The sentinel.conf of the Sentinel, which is rewritten");
-    Command::new(alloc, "watch")
+    let command = Command::new(alloc, "watch")
         .about(
             "Runs one Sentinel, which watches Redis servers and speaks to the other Sentinels over TCP",
         )
-        .arg(quiet)?
-        .arg(times)?
-        .arg(no_times)?
+        .arg(flag(
+            alloc,
+            "quiet",
+            "Notes on standard error warnings alone, and why it ends",
+        ))?
+        .arg(flag(
+            alloc,
+            "times",
+            "Begins each note with the time, as without this word where standard error isn't systemd's journal",
+        ))?;
+    let no_times = flag(alloc, "no-times", "Begins no note with the time");
+    with_word(command, no_times.conflicts_with("times"))?
         .arg(port_threads(alloc))?
-        .arg(ready_file)?
-        .arg(conf)
+        .arg(option(
+            alloc,
+            "ready-file",
+            "file",
+            "Makes this file once the port is open, and removes it at the end: for supervisors",
+        ))?
+        .arg(
+            Arg::new(alloc, "conf")
+                .required(true)
+                .help("The sentinel.conf of the Sentinel, which is rewritten"),
+        )
 }
 
 /// The words of `answer`.
 fn answer<'a>(alloc: Global) -> Result<Command<'a>, AllocError> {
-    let conf = Arg::new(alloc, "conf").long("conf").value_name("file").help(
-        "The sentinel.conf that is read and rewritten; without it what it holds is kept in memory",
-    );
     Command::new(alloc, "answer")
         .about("Answers the commands of standard input on standard output")
-        .arg(conf)
+        .arg(option(
+            alloc,
+            "conf",
+            "file",
+            "The sentinel.conf that is read and rewritten; without it what it holds is kept in memory",
+        ))
 }
 
 /// The words of `replay`.
 fn replay<'a>(alloc: Global) -> Result<Command<'a>, AllocError> {
-    let trace = Arg::new(alloc, "trace")
-        .long("trace")
-        .action(ArgAction::SetTrue)
-        .help(
-            "Prints the scenario again, with each message and each line of the report as a comment",
-        );
-    let profile = Arg::new(alloc, "profile")
-        .long("profile")
-        .value_name("name")
-        .value_parser(ValueParser::Names(&PROFILES))
-        .help(
-            "By which rules the Sentinels work: strict, or redis as for watch; strict where it isn't said",
-        );
-    let scenario = Arg::new(alloc, "scenario")
-        .required(true)
-        .help("The steps of the story, one a line");
     Command::new(alloc, "replay")
         .about(
             "Plays a story of a whole group, and prints who was elected and which addresses were told",
         )
-        .arg(trace)?
-        .arg(profile)?
-        .arg(scenario)?
+        .arg(flag(
+            alloc,
+            "trace",
+            "Prints the scenario again, with each message and each line of the report as a comment",
+        ))?
+        .arg(option(
+            alloc,
+            "profile",
+            "name",
+            "By which rules the Sentinels work: strict, or redis as for watch; strict where it isn't said",
+        )
+        .value_parser(ValueParser::Names(&PROFILES)))?
+        .arg(
+            Arg::new(alloc, "scenario")
+                .required(true)
+                .help("The steps of the story, one a line"),
+        )?
         .arg(conf_files(alloc))
 }
 
 /// The command line of the program.
 pub(crate) fn command<'a>(alloc: Global) -> Result<Command<'a>, AllocError> {
-    Command::new(alloc, "sentinel_group")
+    let program = Command::new(alloc, "sentinel_group")
         .about("A failover group with the behaviour of Redis Sentinel")
         .version(VERSION)
-        .subcommand_required(true)
-        .subcommand(answer(alloc)?)?
-        .subcommand(change_command(alloc)?)?
-        .subcommand(check(alloc)?)?
-        .subcommand(new_group(alloc)?)?
-        .subcommand(new_id(alloc))?
-        .subcommand(replay(alloc)?)?
-        .subcommand(serve(alloc)?)?
-        .subcommand(status(alloc)?)?
-        .subcommand(watch(alloc)?)
+        .subcommand_required(true);
+    let program = with_command(program, answer(alloc))?;
+    let program = with_command(program, change_command(alloc))?;
+    let program = with_command(program, check(alloc))?;
+    let program = with_command(program, new_group(alloc))?.subcommand(new_id(alloc))?;
+    let program = with_command(program, replay(alloc))?;
+    let program = with_command(program, serve(alloc))?;
+    let program = with_command(program, status(alloc))?;
+    with_command(program, watch(alloc))
 }
 
 /// Whether these words ask for the help on `help`, which `clap` takes for a command of that name.

@@ -141,7 +141,10 @@ fn noted_file_of<'a, R: Log>(
     let (conf, store) = file_of(rt, path)?;
     match NotedStore::of(rt, noting, store, conf.port(), path.named()) {
         Ok(noted) => Ok((conf, noted)),
-        Err(_) => Err(fail(&rt, ServeFault::NoMemory)),
+        Err(_) => {
+            drop(conf);
+            Err(fail(&rt, ServeFault::NoMemory))
+        }
     }
 }
 

@@ -44,10 +44,16 @@ fn password_of(rt: HostRuntime, words: &ArgMatches, option: &str) -> Result<Vec<
 /// the status tells it too.
 fn targets_of_conf(rt: HostRuntime, path: &str, given: Passwords<'_>) -> Result<Targets, ExitCode> {
     let (text, conf) = conf_at(rt, path)?;
-    match read_watch(rt.alloc(), &conf, text.as_slice()) {
-        Ok(watch) => held(rt, Targets::of_conf(rt.alloc(), &conf, &watch, given)),
+    let targets = match read_watch(rt.alloc(), &conf, text.as_slice()) {
+        Ok(watch) => {
+            let targets = Targets::of_conf(rt.alloc(), &conf, &watch, given);
+            drop(watch);
+            held(rt, targets)
+        }
         Err(fault) => Err(refuse_watch(rt, path, &conf, text.as_slice(), fault)),
-    }
+    };
+    drop(conf);
+    targets
 }
 
 /// Whether the word is the address of a Sentinel.
@@ -88,16 +94,16 @@ fn look_until_well(rt: HostRuntime, targets: &Targets, seconds: u32) -> Result<S
         return Err(fail(&rt, ServeFault::Read));
     };
     let most = Duration::from_secs(u64::from(seconds));
-    let mut status = look(rt, targets)?;
     for _ in 0..u64::MAX {
+        let status = look(rt, targets)?;
         let is_late = start.elapsed(&rt).map_or(true, |took| took >= most);
         if status.is_well() || is_late {
-            break;
+            return Ok(status);
         }
+        drop(status);
         thread::sleep(&rt, Duration::from_millis(WAIT_MS));
-        status = look(rt, targets)?;
     }
-    Ok(status)
+    look(rt, targets)
 }
 
 /// Writes what was seen to standard output, as a page or as JSON, after `front`.
@@ -126,23 +132,38 @@ fn watch_status(rt: HostRuntime, targets: &Targets, json: bool) -> Result<ExitCo
     };
     for _ in 0..u64::MAX {
         let status = look(rt, targets)?;
-        tell_status(rt, front, &status, json)?;
+        let told = tell_status(rt, front, &status, json);
+        drop(status);
+        told?;
         thread::sleep(&rt, Duration::from_millis(WATCH_MS));
     }
     Ok(ExitCode::SUCCESS)
 }
 
-/// Looks at the group as the words say, and tells it.
-fn tell_group(rt: HostRuntime, words: &ArgMatches) -> Result<ExitCode, ExitCode> {
-    let targets = targets_of(rt, words)?;
+/// Looks at these nodes as the words say, and tells what was seen.
+fn tell_nodes(
+    rt: HostRuntime,
+    targets: &Targets,
+    words: &ArgMatches,
+) -> Result<ExitCode, ExitCode> {
     let json = words.get_flag("json");
     if words.get_flag("watch") {
-        return watch_status(rt, &targets, json);
+        return watch_status(rt, targets, json);
     }
     let seconds = words.get_one::<u32>("wait").unwrap_or(0);
-    let status = look_until_well(rt, &targets, seconds)?;
-    tell_status(rt, "", &status, json)?;
-    Ok(ExitCode::from(status.exit_status()))
+    let status = look_until_well(rt, targets, seconds)?;
+    let (told, code) = (tell_status(rt, "", &status, json), status.exit_status());
+    drop(status);
+    told?;
+    Ok(ExitCode::from(code))
+}
+
+/// Looks at the group that the words name, and tells it.
+fn tell_group(rt: HostRuntime, words: &ArgMatches) -> Result<ExitCode, ExitCode> {
+    let targets = targets_of(rt, words)?;
+    let told = tell_nodes(rt, &targets, words);
+    drop(targets);
+    told
 }
 
 /// Tells whether the group is well that the words name: with status 0, or with status 1 what isn't.

@@ -96,8 +96,13 @@ where
     if let (true, Some(conf)) = (words.get_flag("real-nodes"), confs.first()) {
         let own = descriptors_of(conf.roster());
         let ports = WithPorts::open(&rt, alloc, conf.roster())?;
-        let group = Group::open_with(noting, alloc, confs, stores, port, own)?;
-        return run_group(rt, noting, group, ports, words);
+        return match Group::open_with(noting, alloc, confs, stores, port, own) {
+            Ok(group) => run_group(rt, noting, group, ports, words),
+            Err(fault) => {
+                drop(ports);
+                Err(OrderedFault::Group(fault))
+            }
+        };
     }
     let group = Group::open_with(noting, alloc, confs, stores, port, 0)?;
     run_group(rt, noting, group, WithoutPorts, words)

@@ -206,8 +206,13 @@ fn with_notes<'a, S: TellsFault + Drop, R: Log>(
     ensures { IfOk result (λ noted. (noted.conf ≡ loaded.conf) × (noted.text ≡ loaded.text) × (noted.store ≡ loaded.store)) }
 {
     let (conf, text, store) = loaded.into_parts();
-    let store = NotedStore::of(rt, noting, store, conf.port(), path)?;
-    Ok(LoadedConf::of(conf, text, store))
+    match NotedStore::of(rt, noting, store, conf.port(), path) {
+        Ok(store) => Ok(LoadedConf::of(conf, text, store)),
+        Err(error) => {
+            drop(conf);
+            Err(error)
+        }
+    }
 }
 
 /// What this store at the path holds makes of a Sentinel; the store's notes go to the log of `noting`. A text that is
@@ -230,10 +235,19 @@ fn file_in<'a, S: TellsFault + Drop, R: Log>(
         Ok(loaded) => loaded,
         Err(why) => return Err(refuse_unloaded(rt, path, why)),
     };
-    let settings = settings_of(rt, path, loaded.conf(), loaded.text(), port)?;
+    let settings = match settings_of(rt, path, loaded.conf(), loaded.text(), port) {
+        Ok(settings) => settings,
+        Err(status) => {
+            drop(loaded);
+            return Err(status);
+        }
+    };
     match with_notes(rt, noting, path, loaded) {
         Ok(loaded) => Ok(WatchFile { loaded, settings }),
-        Err(_) => Err(fail(&rt, ServeFault::NoMemory)),
+        Err(_) => {
+            drop(settings);
+            Err(fail(&rt, ServeFault::NoMemory))
+        }
     }
 }
 
@@ -271,7 +285,10 @@ fn locked_file<'a, R: Log>(
             lock.note(noting, path.named());
             Ok((file, lock))
         }
-        Err(fault) => Err(refuse_lock(rt, fault)),
+        Err(fault) => {
+            drop(file);
+            Err(refuse_lock(rt, fault))
+        }
     }
 }
 
@@ -295,6 +312,7 @@ where
     R: Threads + Wait + Net + Clock + ReadsTimes + Log + Sync,
 {
     if let Err(status) = ready.open(rt, noting) {
+        drop(watch);
         return Err(Unwatched::Refused(status));
     }
     let (left, ended) = watch.run(noting);
@@ -324,7 +342,11 @@ where
     let own = path.own().unwrap_or(path.named());
     let ready = match ReadyFile::cleared(rt, noting, words.get_str("ready-file"), own) {
         Ok(ready) => ready,
-        Err(status) => return Err(Unwatched::Refused(status)),
+        Err(status) => {
+            drop(loaded);
+            drop(settings);
+            return Err(Unwatched::Refused(status));
+        }
     };
     let ended = match Watch::open(noting, rt.alloc(), loaded, settings) {
         Ok(watch) => run_ready(rt, noting, watch, ready),
