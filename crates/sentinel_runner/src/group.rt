@@ -13,16 +13,17 @@ use crate::restarts::Restarts;
 use crate::shared::Shared;
 use crate::started::Started;
 use crate::stop_flags::StopFlags;
-use crate::threads::end_for_want;
+use crate::threads::{Ending, Work, end_for_want, run_parts};
+use ballot_law::NoMemory;
 use channel_transport::{DataNodes, Links, NodeOrder, SharedNodes};
-use client_port::ReadsTimes;
+use client_port::{PortRoom, ReadsTimes};
 use conf_check::is_one_group;
 use crossbeam_channel::Receiver;
 use log::Log;
 use sentinel_conf::{Conf, ConfStore};
 use sentinel_rules::Profile;
 use sentinel_runtime::{GroupClock, RunFault, RunState};
-use std::alloc::Global;
+use std::alloc::{AllocError, Global};
 use std::io::Read;
 use std::net::Net;
 use std::rt::Clock;
@@ -30,12 +31,61 @@ use std::sync::Wait;
 use std::sync::atomic::{AtomicU64, Ordering};
 use std::thread::{self, Threads};
 
+/// What the threads of a group share, and the word that ends them.
+#[derive(Clone, Copy)]
+struct GroupOf<'a> {
+    shared: &'a Shared,
+    ending: &'a AtomicU64,
+}
+
+impl Ending for GroupOf<'_> {
+    fn end_for_want(&self) {
+        end_for_want(&self.shared.state, self.ending);
+        self.shared.stops.stop_all();
+    }
+}
+
+/// What the thread of the data nodes has.
+#[derive(Drop)]
+struct NodeThread {
+    orders: Receiver<NodeOrder>,
+}
+
+impl<R: Wait + Clock> Work<GroupOf<'_>, R> for NodeThread {
+    fn work(self, rt: &R, group: &GroupOf<'_>) {
+        group.shared.run_nodes(rt, &self.orders, group.ending);
+    }
+}
+
+impl<S, R> Work<GroupOf<'_>, R> for Started<S>
+where
+    S: ConfStore + Drop + Send,
+    R: Threads + Wait + Clock + ReadsTimes + Log + Sync,
+{
+    fn work(self, rt: &R, group: &GroupOf<'_>) {
+        self.run(rt, group.shared, group.ending);
+    }
+}
+
 /// What the threads of a group begin with.
 #[derive(Drop)]
 struct Beginning<S: ConfStore> {
     sentinels: Vec<Started<S>>,
-    node_orders: Receiver<NodeOrder>,
-    alloc: Global,
+    nodes: NodeThread,
+}
+
+impl<S, R> Work<GroupOf<'_>, R> for Beginning<S>
+where
+    S: ConfStore + Drop + Send,
+    R: Threads + Wait + Clock + ReadsTimes + Log + Sync,
+{
+    /// Runs each Sentinel in a thread that starts its others, and the data nodes in this one. Where one can't be made,
+    /// all end. The threads of a Sentinel look at its own word alone, and each word says that they are to end once the
+    /// data nodes have ended.
+    fn work(self, rt: &R, group: &GroupOf<'_>) {
+        let Beginning { sentinels, nodes } = self;
+        run_parts(rt, group, sentinels, nodes);
+    }
 }
 
 /// A group whose Sentinels are open and whose ports are taken, before its threads run.
@@ -43,10 +93,29 @@ struct Beginning<S: ConfStore> {
 pub struct Group<S: ConfStore> {
     threads: Beginning<S>,
     restarts: Restarts<S>,
-    nodes: DataNodes,
-    links: Links,
-    stops: StopFlags,
-    state: RunState,
+    node_count: u16,
+    shared: Shared,
+}
+
+/// What the threads of the group of this conf share, of so many Sentinels, with the end of the data nodes' channel, and
+/// how many nodes there are. The error is a refused allocation.
+fn shared_of<R: Clock>(
+    rt: &R,
+    alloc: Global,
+    conf: &Conf,
+    sentinels: usize,
+) -> Result<(Shared, NodeThread, u16), AllocError> {
+    let stops = StopFlags::new(alloc, sentinels)?;
+    let (links, orders) = Links::open(alloc, sentinels)?;
+    let nodes = DataNodes::of(alloc, conf)?;
+    let node_count = nodes.count();
+    let shared = Shared {
+        nodes: SharedNodes::new(nodes),
+        links,
+        stops,
+        state: RunState::new(GroupClock::start(rt)),
+    };
+    Ok((shared, NodeThread { orders }, node_count))
 }
 
 /// Opens the Sentinel of each conf with the store at the same place.
@@ -66,6 +135,17 @@ fn start_all<S: ConfStore + Drop, R: Net + Log>(
         sentinels.push(Started::open(rt, alloc, conf, store, links, restarts)?)?;
     }
     Ok(sentinels)
+}
+
+/// The Sentinels of the group of this conf as orders know them, so many, whose ports have this room; none is there yet.
+fn restarts_of<S: ConfStore + Drop>(
+    alloc: Global,
+    conf: &Conf,
+    sentinels: usize,
+    room: PortRoom,
+) -> Result<Restarts<S>, NoMemory> {
+    let roster = conf.roster().copy(alloc)?;
+    Ok(Restarts::new(alloc, sentinels, roster, room)?)
 }
 
 /// Whether there is a store for each conf, and the confs are those of one group.
@@ -139,33 +219,30 @@ impl<S: ConfStore + Drop> Group<S> {
         let Some(first) = confs.first() else {
             unreachable!()
         };
-        let nodes = DataNodes::of(alloc, first)?;
-        let Ok(roster) = first.roster().copy(alloc) else {
+        let room = room_of(rt, alloc, confs.len(), port, own)?;
+        let (mut shared, nodes, node_count) = shared_of(rt, alloc, first, confs.len())?;
+        let Ok(mut restarts) = restarts_of(alloc, first, confs.len(), room) else {
+            drop(shared);
             return Err(GroupFault::NoMemory);
         };
-        let (mut links, node_orders) = Links::open(alloc, confs.len())?;
-        let stops = StopFlags::new(alloc, confs.len())?;
-        let clock = GroupClock::start(rt);
-        let room = room_of(rt, alloc, confs.len(), port, own)?;
-        let mut restarts = Restarts::new(alloc, confs.len(), roster, room)?;
-        let sentinels = start_all(rt, alloc, confs, stores, &mut links, &mut restarts)?;
-        Ok(Group {
-            threads: Beginning {
-                sentinels,
-                node_orders,
-                alloc,
-            },
-            restarts,
-            nodes,
-            links,
-            stops,
-            state: RunState::new(clock),
-        })
+        match start_all(rt, alloc, confs, stores, &mut shared.links, &mut restarts) {
+            Ok(sentinels) => Ok(Group {
+                threads: Beginning { sentinels, nodes },
+                restarts,
+                node_count,
+                shared,
+            }),
+            Err(fault) => {
+                drop(restarts);
+                drop(shared);
+                Err(fault)
+            }
+        }
     }
 
     /// From now on a Sentinel of the group that is halted closes its port, with the connections that are there.
     pub fn close_halted(&self) {
-        self.state.close_halted();
+        self.shared.state.close_halted();
     }
 }
 
@@ -193,20 +270,19 @@ impl<S: ConfStore + Drop + Send> Group<S> {
     {
         let Group {
             threads,
-            restarts: _,
-            nodes,
-            links,
-            stops,
-            state,
+            restarts,
+            node_count: _,
+            shared,
         } = self;
-        let shared = Shared {
-            nodes: SharedNodes::new(nodes),
-            links,
-            stops,
-            state,
+        let group = GroupOf {
+            shared: &shared,
+            ending,
         };
-        run_beside_ports(rt, ports, threads, &shared, ending);
-        outcome(&shared.state)
+        run_beside_ports(rt, ports, threads, &group);
+        let ended = outcome(&shared.state);
+        drop(restarts);
+        drop(shared);
+        ended
     }
 
     /// Runs each Sentinel and the data nodes, and obeys the lines of the input until its end, which ends the group. The
@@ -232,96 +308,89 @@ impl<S: ConfStore + Drop + Send> Group<S> {
     where
         P: ServesNodes + Drop + Send,
     {
-        let Ok(node_orders) = self.links.node_orders() else {
+        let Ok(node_orders) = self.shared.links.node_orders() else {
+            drop(self);
             return Err(OrderedFault::Group(GroupFault::NoMemory));
         };
         let Group {
             threads,
             restarts,
-            nodes,
-            links,
-            stops,
-            state,
+            node_count,
+            shared,
         } = self;
         let orders = NetOrders {
-            orders: Orders::new(node_orders, nodes.count(), restarts),
+            orders: Orders::new(node_orders, node_count, restarts),
             net: rt,
         };
-        let shared = Shared {
-            nodes: SharedNodes::new(nodes),
-            links,
-            stops,
-            state,
+        let group = GroupOf {
+            shared: &shared,
+            ending,
         };
-        let read = follow_beside_ports(rt, ports, threads, orders, input, &shared, ending);
-        outcome(&shared.state)?;
+        let read = follow_beside_ports(rt, ports, threads, orders, input, &group);
+        let ended = outcome(&shared.state);
+        drop(shared);
+        ended?;
         read.map_err(|_| OrderedFault::Read)
     }
 }
 
 /// Starts the thread that serves the data nodes to clients, and runs all others.
-fn run_beside_ports<'a, S, P, R>(
-    rt: &'a R,
-    ports: P,
-    threads: Beginning<S>,
-    shared: &'a Shared,
-    ending: &'a AtomicU64,
-)
+fn run_beside_ports<'a, P, T, R>(rt: &'a R, ports: P, threads: T, group: &'a GroupOf<'a>)
 where
-    S: ConfStore + Drop + Send,
     P: ServesNodes + Drop + Send,
-    R: Threads + Wait + Clock + ReadsTimes + Log + Sync,
+    T: Work<GroupOf<'a>, R> + Drop,
+    R: Threads + Wait + Clock + Sync,
 {
+    let GroupOf { shared, ending } = *group;
     thread::scope(thread::scope_env(), rt, |scope| {
         let begun = scope.spawn(move || ports.serve(rt, &shared.state, &shared.nodes, ending));
         if begun.is_err() {
             return end_for_want(&shared.state, ending);
         }
-        run_threads(rt, threads, shared, ending);
+        threads.work(rt, group);
     })
 }
 
-/// Starts the thread that serves the data nodes to clients, and follows the orders of the input beside all others. Many
-/// parameters: the threads borrow what they share, and have the rest by value.
-fn follow_beside_ports<'a, S, P, O: FollowsOrders + Drop, I: Read, R>(
+/// Starts the thread that serves the data nodes to clients, and follows the orders of the input beside all others.
+fn follow_beside_ports<'a, P, T, O: FollowsOrders + Drop, I: Read, R>(
     rt: &'a R,
     ports: P,
-    threads: Beginning<S>,
+    threads: T,
     orders: O,
     input: &mut I,
-    shared: &'a Shared,
-    ending: &'a AtomicU64,
+    group: &'a GroupOf<'a>,
 ) -> Result<(), ReadFailed>
 where
-    S: ConfStore + Drop + Send,
     P: ServesNodes + Drop + Send,
-    R: Threads + Wait + Clock + ReadsTimes + Log + Sync,
+    T: Work<GroupOf<'a>, R> + Drop + Send,
+    R: Threads + Wait + Clock + Log + Sync,
 {
+    let GroupOf { shared, ending } = *group;
     thread::scope(thread::scope_env(), rt, |scope| {
         let begun = scope.spawn(move || ports.serve(rt, &shared.state, &shared.nodes, ending));
         if begun.is_err() {
             end_for_want(&shared.state, ending);
             return Ok(());
         }
-        follow_beside(rt, threads, orders, input, shared, ending)
+        follow_beside(rt, threads, orders, input, group)
     })
 }
 
 /// Runs all threads, beside which this one follows the orders of the input to its end. Then they end too.
-fn follow_beside<'a, S, O: FollowsOrders + Drop, I: Read, R>(
+fn follow_beside<'a, T, O: FollowsOrders + Drop, I: Read, R>(
     rt: &'a R,
-    threads: Beginning<S>,
+    threads: T,
     mut orders: O,
     input: &mut I,
-    shared: &'a Shared,
-    ending: &'a AtomicU64,
+    group: &'a GroupOf<'a>,
 ) -> Result<(), ReadFailed>
 where
-    S: ConfStore + Drop + Send,
-    R: Threads + Wait + Clock + ReadsTimes + Log + Sync,
+    T: Work<GroupOf<'a>, R> + Drop + Send,
+    R: Threads + Wait + Clock + Log + Sync,
 {
+    let GroupOf { shared, ending } = *group;
     thread::scope(thread::scope_env(), rt, |scope| {
-        let begun = scope.spawn(move || run_threads(rt, threads, shared, ending));
+        let begun = scope.spawn(move || threads.work(rt, group));
         if begun.is_err() {
             shared.state.note(RunFault::LackedThread);
             return Ok(());
@@ -351,40 +420,6 @@ pub(crate) fn outcome(state: &RunState) -> Result<(), GroupFault>
         Some(fault) => Err(fault_of_run(fault)),
         None => Ok(()),
     }
-}
-
-/// Runs the data nodes in a thread, and each Sentinel in one that starts its others. Where one can't be made, all end.
-/// The threads of a Sentinel look at its own word alone, and each word says that they are to end once the data nodes
-/// have ended.
-fn run_threads<'a, S, R>(
-    rt: &'a R,
-    threads: Beginning<S>,
-    shared: &'a Shared,
-    ending: &'a AtomicU64,
-)
-where
-    S: ConfStore + Drop + Send,
-    R: Threads + Wait + Clock + ReadsTimes + Log + Sync,
-{
-    let Beginning {
-        sentinels,
-        node_orders,
-        alloc,
-    } = threads;
-    thread::scope(thread::scope_env(), rt, |scope| {
-        let mut refused = scope
-            .spawn(move || shared.run_nodes(rt, &node_orders, ending))
-            .is_err();
-        for started in sentinels {
-            refused |= scope
-                .spawn(move || started.run(rt, alloc, shared, ending))
-                .is_err();
-        }
-        if refused {
-            end_for_want(&shared.state, ending);
-            shared.stops.stop_all();
-        }
-    })
 }
 
 /// Runs a group: for each conf a Sentinel with a timer that ticks each master every 100 ms, a link that takes what

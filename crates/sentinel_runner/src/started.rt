@@ -60,6 +60,7 @@ struct Left<S> {
 pub(crate) struct Started<S: ConfStore> {
     life: Life<S>,
     ends: LifeEnds<S>,
+    alloc: Global,
 }
 
 /// Loses the messages that came for a Sentinel that is stopped.
@@ -189,6 +190,7 @@ impl<S: ConfStore + Drop> Started<S> {
             Ok((deliveries, ends)) => Ok(Started {
                 life: Life { opened, deliveries },
                 ends,
+                alloc,
             }),
             Err(_) => {
                 drop(opened);
@@ -202,14 +204,17 @@ impl<S: ConfStore + Drop> Started<S> {
     pub(crate) fn run<R: Threads + Wait + Clock + ReadsTimes + Log + Sync>(
         self,
         rt: &R,
-        alloc: Global,
         shared: &Shared,
         ending: &AtomicU64,
     )
     where
         S: Send,
     {
-        let Started { mut life, ends } = self;
+        let Started {
+            mut life,
+            ends,
+            alloc,
+        } = self;
         for _ in rt.forever() {
             let Some(next) = ends.next_life(rt, alloc, shared, life, ending) else {
                 return drop(ends);
@@ -265,7 +270,10 @@ where
         stop,
     };
     run_parts(rt, &life, parts, own);
-    let Keeper { sentinel, store } = close(rt, alloc, member, &back)?;
+    let Some(Keeper { sentinel, store }) = close(rt, alloc, member, &back) else {
+        drop(deliveries);
+        return None;
+    };
     drop(sentinel);
     Some(Left { store, deliveries })
 }

@@ -45,28 +45,71 @@ pub(crate) fn parts_of<J: Which, S: ConfStore, T: From<Port> + Drop>(
     alloc: Global,
     member: &RunningSentinel<J, S>,
     seat: ThreadSeat<J>,
-    mut tasks: Vec<T>,
+    tasks: Vec<T>,
     ports: (Port, Vec<Port>),
 ) -> Result<(Vec<Part<J, T>>, Receiver<ThreadSeat<J>>), AllocError>
     requires { seat.seat.view.share ≡ length ports.1.items + 1 + length tasks.items }
     ensures { IfOk result (λ r. length r.0.items ≡ length ports.1.items + 1 + length tasks.items) }
 {
+    let seats = match member.seats(alloc, seat) {
+        Ok(seats) => seats,
+        Err(error) => {
+            drop(ports);
+            return Err(error);
+        }
+    };
+    seated(alloc, with_ports(tasks, ports)?, seats)
+}
+
+/// These tasks, and one for each thread of the port, of which the first one comes last.
+fn with_ports<T: From<Port> + Drop>(
+    mut tasks: Vec<T>,
+    ports: (Port, Vec<Port>),
+) -> Result<Vec<T>, AllocError>
+    ensures { IfOk result (λ all. length all.items ≡ length ports.1.items + 1 + length tasks.items) }
+{
     let (first, others) = ports;
+    let first = T::from(first);
     for port in others {
         tasks.push(T::from(port))?;
     }
-    tasks.push(T::from(first))?;
+    tasks.push(first)?;
+    Ok(tasks)
+}
+
+/// Each of these tasks with one of these seats, and the end at which they come back.
+fn seated<J: Which, T: Drop>(
+    alloc: Global,
+    tasks: Vec<T>,
+    mut seats: Vec<ThreadSeat<J>>,
+) -> Result<(Vec<Part<J, T>>, Receiver<ThreadSeat<J>>), AllocError>
+    requires { length seats.items ≡ length tasks.items }
+    ensures { IfOk result (λ r. length r.0.items ≡ length tasks.items) }
+{
     let (back, seats_back) = unbounded(alloc)?;
-    let mut seats = member.seats(alloc, seat)?;
     let mut parts = Vec::new(alloc);
     for task in tasks {
         let Some(seat) = seats.pop() else {
             unreachable!()
         };
-        let back = back.clone()?;
-        parts.push(Part { task, seat, back })?;
+        parts.push(part_of(task, seat, &back)?)?;
     }
     Ok((parts, seats_back))
+}
+
+/// A thread's part, with an end of its own at which its seat goes back.
+fn part_of<J: Which, T: Drop>(
+    task: T,
+    seat: ThreadSeat<J>,
+    back: &Sender<ThreadSeat<J>>,
+) -> Result<Part<J, T>, AllocError> {
+    match back.clone() {
+        Ok(back) => Ok(Part { task, seat, back }),
+        Err(error) => {
+            drop(seat);
+            Err(error)
+        }
+    }
 }
 
 /// Starts a thread for each of these parts, and does this thread's own work beside them. When this returns all have
@@ -108,7 +151,7 @@ pub(crate) fn serve_port<J: Which, S: ConfStore, R: Wait + Clock + ReadsTimes + 
     drop(port);
 }
 
-/// The seats that came back; none where memory was refused.
+/// The seats that came back.
 fn seats_of<J: Which, R: Wait>(
     rt: &R,
     alloc: Global,

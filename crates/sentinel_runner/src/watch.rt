@@ -197,6 +197,40 @@ fn port_of<R: Net + Log>(
     }
 }
 
+/// The port of a Sentinel of its own, before it is served, and whom it lets in.
+#[derive(Drop)]
+struct WatchPort {
+    ports: (Port, Vec<Port>),
+    room: PortRoom,
+    admission: Admission,
+}
+
+/// The port of the Sentinel of this conf at these addresses, which is served so, for whom it lets in.
+fn watch_port<R: Net + Log>(
+    rt: &R,
+    alloc: Global,
+    conf: &Conf,
+    port: PortSettings,
+    admission: Admission,
+    addresses: Vec<PortAddress>,
+) -> Result<WatchPort, GroupFault>
+    ensures threads { IfOk result (λ made. length made.ports.1.items + 1 ≡ made.room.threads) }
+    ensures profile { IfOk result (λ made. made.room.profile ≡ port.profile) }
+    ensures first { IfOk result (λ made. made.ports.0.clients.terms.password ≡ admission.password) }
+    ensures others { IfOk result (λ made. All (λ port. port.clients.terms.password ≡ admission.password) made.ports.1.items) }
+    ensures roster { IfErr result (λ fault. fault ≢ NotOneRoster) }
+{
+    let room = room_of(rt, alloc, conf, port, &admission)?;
+    let admission = admission.within(room);
+    let sockets = sockets_of(rt, alloc, addresses.as_slice())?;
+    let ports = port_of(rt, alloc, sockets, room, &admission)?;
+    Ok(WatchPort {
+        ports,
+        room,
+        admission,
+    })
+}
+
 /// The Sentinel of this conf with its port, whose masters may load their data for so long after a restart, once the
 /// store has taken what the conf keeps.
 #[tactic(auto, using(crate::proofs::Opening::opens_anew))]
@@ -226,8 +260,7 @@ fn opened_of<S: ConfStore + Drop>(
         reboots,
         now: 0,
     };
-    let opened = Opened::with_port(alloc, beginning, ports, room, BESIDE)?;
-    Ok(opened)
+    Opened::with_port(alloc, beginning, ports, room, BESIDE)
 }
 
 impl<S: ConfStore + Drop> Watch<S> {
@@ -266,15 +299,17 @@ impl<S: ConfStore + Drop> Watch<S> {
             logins,
             reboots,
         } = settings;
+        let wanted = admission.limit;
         let (conf, _, store) = loaded.into_parts();
         let wires = wires_of(rt, alloc, &conf, logins)?;
-        let room = room_of(rt, alloc, &conf, port, &admission)?;
-        let wanted = admission.limit;
-        let admission = admission.within(room);
-        let sockets = sockets_of(rt, alloc, addresses.as_slice())?;
-        let ports = port_of(rt, alloc, sockets, room, &admission)?;
+        let port = watch_port(rt, alloc, &conf, port, admission, addresses)?;
         let number = conf.port();
         let is_alone = conf.roster().sentinels().len() < 2;
+        let WatchPort {
+            ports,
+            room,
+            admission,
+        } = port;
         let opened = opened_of(alloc, conf, store, reboots, ports, room)?;
         note_room(rt, number, wanted, &admission);
         let state = WatchState {

@@ -1,3 +1,4 @@
+use Rattle.std.proofs.Common.{refl}
 use Rattle.sentinel_runner.proofs.Opening.{opens_held, want_as, wired_as}
 use Rattle.sentinel_runner.proofs.watch.Watch.open.Goals as goal
 
@@ -7,7 +8,7 @@ returns-clause-held g c =
 
 pub returns-clause-clients : goal.returns-clause-clients
 returns-clause-clients g c =
-    want_as _ _ _ _ c.in_ok-opened.ensures.ports.1 c.within-admission.ensures.password c.in_ok-ports.ensures.others
+    want_as _ _ _ _ c.in_ok-opened.ensures.ports.1 refl c.in_ok-port.ensures.others
 
 pub returns-clause-wires : goal.returns-clause-wires
 returns-clause-wires g c =
