@@ -110,6 +110,7 @@ impl Clients {
     ) -> io::Result<Clients>
         ensures { IfOk result (λ clients. clients.terms.password ≡ admission.now.password) }
     {
+        let terms = terms_of(alloc, admission)?;
         let poll = Poll::new(net)?;
         let news = match admission.limit {
             Some(_) => Some(Waker::new(poll.registry(), NEWS)?),
@@ -128,7 +129,7 @@ impl Clients {
             reading: 0,
             next_look: 0,
             next_id: u64::from(thread) + 1,
-            terms: terms_of(alloc, admission)?,
+            terms,
             roll: Roll::new(alloc, room.courteous(), most_of(room, admission)),
             untold: 0,
             alloc,
@@ -202,9 +203,10 @@ impl Clients {
     fn next_session(&self) -> Result<ClientSession, NoMemory>
         ensures { IfOk result (λ session. session ≡ admitting self.now.terms.password (begun (is_redis self.now.room.profile) self.now.next_id)) }
     {
+        let password = Text::from_slice(self.alloc, self.terms.password.as_slice())?;
         let mut session = ClientSession::new(self.alloc, self.room.courteous(), self.next_id);
-        if !self.terms.password.as_slice().is_empty() {
-            session.want_password(Text::from_slice(self.alloc, self.terms.password.as_slice())?);
+        if !password.as_slice().is_empty() {
+            session.want_password(password);
         }
         Ok(session)
     }
@@ -281,7 +283,10 @@ impl Clients {
     {
         let key = self.connections.vacant_key();
         let ip = connection.ip();
-        self.register(key, &mut connection, arrival)?;
+        if let Err(error) = self.register(key, &mut connection, arrival) {
+            drop(connection);
+            return Err(error);
+        }
         let kept = self.connections.insert(connection);
         if kept.is_err() {
             self.seating.leave_crowd(ip);
@@ -297,6 +302,7 @@ impl Clients {
         ensures kept { (other : ℕ) → IfSome (get self.old.connections other) (λ c. get self.new.connections other ≡ Some c) }
     {
         if self.connections.len() >= self.room.each() {
+            drop(newcomer);
             return Ok(false);
         }
         let Newcomer {
@@ -316,9 +322,16 @@ impl Clients {
             is_peer,
             came: self.reading,
         };
-        let arrival = self.next_arrival(&stream, address, place)?;
-        self.insert(stream.connect(session, origin), &arrival)?;
-        Ok(true)
+        match self.next_arrival(&stream, address, place) {
+            Ok(arrival) => {
+                self.insert(stream.connect(session, origin), &arrival)?;
+                Ok(true)
+            }
+            Err(error) => {
+                drop(session);
+                Err(error)
+            }
+        }
     }
 
     /// Closes a connection: its seat is free.
@@ -331,6 +344,7 @@ impl Clients {
             self.seating.leave_crowd(connection.ip());
             self.seats.free(connection.place());
             self.roll.remove(key);
+            drop(connection);
         }
     }
 

@@ -45,17 +45,35 @@ fn asks_in_vain(profile: Profile, admission: &Admission) -> bool
     }
 }
 
+/// A desk at which the thread that waits by this registry is handed connections, for who hands them and for the thread.
+fn desk_of(
+    alloc: Global,
+    registry: &Registry,
+    room: PortRoom,
+) -> io::Result<(Arc<Handoff, Global>, Arc<Handoff, Global>)> {
+    let desk = Arc::new(alloc, Handoff::open(alloc, registry, room.each())?)?;
+    let own = Arc::try_clone(&desk)?;
+    Ok((desk, own))
+}
+
 impl Port {
     /// What the thread with this number serves.
     fn of(alloc: Global, clients: Clients, entrance: Acceptor, thread: u16) -> io::Result<Port>
         ensures { IfOk result (λ port. port.clients.terms.password ≡ clients.terms.password) }
     {
-        Ok(Port {
-            clients,
-            entrance,
-            events: Events::with_capacity(alloc, EVENTS)?,
-            thread,
-        })
+        match Events::with_capacity(alloc, EVENTS) {
+            Ok(events) => Ok(Port {
+                clients,
+                entrance,
+                events,
+                thread,
+            }),
+            Err(error) => {
+                drop(clients);
+                drop(entrance);
+                Err(error)
+            }
+        }
     }
 
     /// Listens on 127.0.0.1 at this port for each client, as `open_at` does.
@@ -97,6 +115,31 @@ impl Port {
         Port::parts(net, alloc, sockets, room, admission)
     }
 
+    /// What the further thread with this number serves, of the port on these seats, and the desk at which it is handed
+    /// connections.
+    fn further<N: Net>(
+        net: &N,
+        alloc: Global,
+        room: PortRoom,
+        thread: u16,
+        admission: &Admission,
+        seats: &Arc<Seats, Global>,
+    ) -> io::Result<(Port, Arc<Handoff, Global>)>
+        ensures { IfOk result (λ part. part.0.clients.terms.password ≡ admission.now.password) }
+    {
+        let clients = Clients::open(net, alloc, room, thread, admission, Arc::try_clone(seats)?)?;
+        match desk_of(alloc, clients.registry(), room) {
+            Ok((desk, own)) => {
+                let port = Port::of(alloc, clients, Acceptor::IsHanded(own), thread)?;
+                Ok((port, desk))
+            }
+            Err(error) => {
+                drop(clients);
+                Err(error)
+            }
+        }
+    }
+
     /// What the first thread serves, and what each further one does: as `open_at` has it, for each password.
     fn parts<N: Net>(
         net: &N,
@@ -114,21 +157,22 @@ impl Port {
         let mut desks = Vec::new(alloc);
         let mut others = Vec::new(alloc);
         for thread in 1..room.threads() {
-            let own = Arc::try_clone(&seats)?;
-            let clients = Clients::open(net, alloc, room, thread, admission, own)?;
-            let desk = Arc::new(
-                alloc,
-                Handoff::open(alloc, clients.registry(), room.each())?,
-            )?;
-            let entrance = Acceptor::IsHanded(Arc::try_clone(&desk)?);
+            let (port, desk) = Port::further(net, alloc, room, thread, admission, &seats)?;
+            others.push(port)?;
             desks.push(desk)?;
-            others.push(Port::of(alloc, clients, entrance, thread)?)?;
         }
         let own = Arc::try_clone(&seats)?;
         let clients = Clients::open(net, alloc, room, 0, admission, own)?;
-        let listener = Listener::open(clients.registry(), sockets, desks, seats)?;
-        let first = Port::of(alloc, clients, Acceptor::Listens(listener), 0)?;
-        Ok((first, others))
+        match Listener::open(clients.registry(), sockets, desks, seats) {
+            Ok(listener) => {
+                let first = Port::of(alloc, clients, Acceptor::Listens(listener), 0)?;
+                Ok((first, others))
+            }
+            Err(error) => {
+                drop(clients);
+                Err(error)
+            }
+        }
     }
 
     /// Serves until `ending` isn't 0 or the Sentinel closes its port, and looks at the first of these before each

@@ -6,6 +6,5 @@ use Rattle.client_port.proofs.port.Port.parts.Goals as goal
 pub loop-thread-preserved : goal.loop-thread-preserved
 loop-thread-preserved c c' =
     let P : Port → Type 0 = λ port. port.clients.terms.password ≡ c'.args.admission.now.password in
-    let own : P c'.in_ok-of.field-0 = search rules in
-    let all : All P c'.push-in-loop-thread.new.self.items = subst (All P) (sym c'.in_ok-push-2.ensures.items) (All-push P c'.loop-thread.others.items c'.in_ok-of.field-0 c'.loop-thread.invariant.1 own) in
+    let all : All P c'.push.new.self.items = subst (All P) (sym c'.in_ok-push.ensures.items) (All-push P _ _ c'.loop-thread.invariant.1 (search rules)) in
     (search rules, all)
