@@ -149,6 +149,15 @@ impl AskedNode {
         }
     }
 
+    /// Its turn, if the system told of it, unless its time is over: whether it is over then.
+    fn take_turn(&mut self, now_ms: u64) -> Result<bool, NoMemory> {
+        if self.ready {
+            self.turn()?;
+        }
+        self.expire(now_ms);
+        Ok(self.talk.is_over())
+    }
+
     /// What a Sentinel said.
     fn sentinel_said(&self, alloc: Global) -> Result<SentinelSaid, Unsaid> {
         sentinel_said(alloc, self.talk.answers()?)
@@ -206,12 +215,14 @@ impl<'a> Questions<'a> {
         for _ in 0..OPEN_MAX {
             open.push(None)?;
         }
+        let poll = Poll::new(net)?;
+        let told = Events::with_capacity(alloc, OPEN_MAX)?;
         Ok(Questions {
             alloc,
             targets,
             group: GroupFacts::of(alloc, targets)?,
-            poll: Poll::new(net)?,
-            told: Events::with_capacity(alloc, OPEN_MAX)?,
+            poll,
+            told,
             open,
             sentinels: 0,
             nodes: 0,
@@ -250,20 +261,30 @@ impl<'a> Questions<'a> {
             let Some((asked, addr, talk)) = self.next()? else {
                 return Ok(());
             };
-            if let Ok(stream) = connected(net, self.poll.registry(), place, addr) {
-                if let Some(open) = self.open.get_mut(place) {
-                    *open = Some(AskedNode {
+            match connected(net, self.poll.registry(), place, addr) {
+                Ok(stream) => self.open_at(
+                    place,
+                    AskedNode {
                         asked,
                         stream,
                         talk,
                         ready: false,
                         sends: false,
                         until_ms: now_ms.saturating_add(TALK_MS),
-                    });
-                }
+                    },
+                ),
+                Err(_) => drop(talk),
             }
         }
         Ok(())
+    }
+
+    /// Keeps a connection at this place.
+    fn open_at(&mut self, place: usize, node: AskedNode) {
+        match self.open.get_mut(place) {
+            Some(open) => drop(open.replace(node)),
+            None => drop(node),
+        }
     }
 
     /// Waits until the system tells of a connection; not at all where one has more to do.
@@ -290,21 +311,22 @@ impl<'a> Questions<'a> {
             let Some(Some(mut node)) = self.open.get_mut(place).map(|open| open.take()) else {
                 continue;
             };
-            if node.ready {
-                node.turn()?;
-            }
-            node.expire(now_ms);
-            if node.talk.is_over() {
-                self.take(node)?;
-            } else if let Some(open) = self.open.get_mut(place) {
-                *open = Some(node);
-            }
+            let taken = match node.take_turn(now_ms) {
+                Ok(false) => {
+                    self.open_at(place, node);
+                    continue;
+                }
+                Ok(true) => self.take(&node),
+                Err(error) => Err(error),
+            };
+            drop(node);
+            taken?;
         }
         Ok(())
     }
 
-    /// Takes what a node said, and closes its connection.
-    fn take(&mut self, node: AskedNode) -> Result<(), NoMemory> {
+    /// Takes what a node said.
+    fn take(&mut self, node: &AskedNode) -> Result<(), NoMemory> {
         match node.asked {
             AskedPlace::Sentinel(place) => {
                 let said = told(node.sentinel_said(self.alloc))?;
@@ -345,6 +367,25 @@ impl<'a> Questions<'a> {
         Ok(())
     }
 
+    /// Asks all of them, from this moment on.
+    fn ask_all<R: Net + Clock>(&mut self, rt: &R, start: Instant) -> Result<(), AskFault> {
+        for _ in 0..u64::MAX {
+            let now_ms = millis_of(start.elapsed(rt)?);
+            self.begin(rt, now_ms)?;
+            self.turn_all(now_ms)?;
+            if self.is_over() {
+                break;
+            }
+            self.wait()?;
+        }
+        Ok(())
+    }
+
+    /// What they said.
+    fn into_group(self) -> GroupFacts {
+        self.group
+    }
+
     /// Whether all were asked, and said something or were given up.
     fn is_over(&self) -> bool {
         self.sentinels >= self.group.sentinels.len()
@@ -372,15 +413,11 @@ pub fn ask_group<R: Net + Clock>(
 ) -> Result<GroupFacts, AskFault> {
     let start = Instant::now(rt)?;
     let mut questions = Questions::of(rt, alloc, targets)?;
-    for _ in 0..u64::MAX {
-        let took = start.elapsed(rt)?;
-        let now_ms = millis_of(took);
-        questions.begin(rt, now_ms)?;
-        questions.turn_all(now_ms)?;
-        if questions.is_over() {
-            break;
+    match questions.ask_all(rt, start) {
+        Ok(()) => Ok(questions.into_group()),
+        Err(fault) => {
+            drop(questions);
+            Err(fault)
         }
-        questions.wait()?;
     }
-    Ok(questions.group)
 }

@@ -152,6 +152,33 @@ impl Page {
             None => self.add(r#","epoch":null}"#),
         }
     }
+
+    /// Adds a group with these findings, and a line's end.
+    fn group_object(&mut self, group: &GroupFacts, findings: &[Matter]) -> Result<(), NoMemory> {
+        let well = findings.is_empty();
+        self.show(format_args!(r#"{{"well":{well},"masters":["#))?;
+        for (place, master) in group.masters.iter().enumerate() {
+            self.next_item(place)?;
+            self.master_object(group, master)?;
+        }
+        self.add(r#"],"sentinels":["#)?;
+        for (place, facts) in group.sentinels.iter().enumerate() {
+            self.next_item(place)?;
+            self.sentinel_object(facts)?;
+        }
+        self.add(r#"],"nodes":["#)?;
+        for (place, node) in group.nodes.iter().enumerate() {
+            self.next_item(place)?;
+            self.node_object(group, node)?;
+        }
+        self.add(r#"],"findings":["#)?;
+        for (place, finding) in findings.iter().enumerate() {
+            let finding = *finding;
+            self.next_item(place)?;
+            self.show(format_args!(r#""{finding}""#))?;
+        }
+        self.add("]}\n")
+    }
 }
 
 /// The object of a group with these findings, and a line's end.
@@ -161,28 +188,6 @@ pub(crate) fn json_of(
     findings: &[Matter],
 ) -> Result<String, NoMemory> {
     let mut page = Page::new(alloc);
-    let well = findings.is_empty();
-    page.show(format_args!(r#"{{"well":{well},"masters":["#))?;
-    for (place, master) in group.masters.iter().enumerate() {
-        page.next_item(place)?;
-        page.master_object(group, master)?;
-    }
-    page.add(r#"],"sentinels":["#)?;
-    for (place, facts) in group.sentinels.iter().enumerate() {
-        page.next_item(place)?;
-        page.sentinel_object(facts)?;
-    }
-    page.add(r#"],"nodes":["#)?;
-    for (place, node) in group.nodes.iter().enumerate() {
-        page.next_item(place)?;
-        page.node_object(group, node)?;
-    }
-    page.add(r#"],"findings":["#)?;
-    for (place, finding) in findings.iter().enumerate() {
-        let finding = *finding;
-        page.next_item(place)?;
-        page.show(format_args!(r#""{finding}""#))?;
-    }
-    page.add("]}\n")?;
+    page.group_object(group, findings)?;
     Ok(page.into_text())
 }

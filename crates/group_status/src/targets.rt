@@ -1,6 +1,6 @@
 //! Which nodes are asked, and with which words they are logged in to.
 
-use ballot_law::{Addr, Name, NoMemory, RunId, Text};
+use ballot_law::{Addr, Name, NoMemory, RunId, Text, Watched};
 use sentinel_conf::{Conf, WatchConf};
 use std::alloc::Global;
 
@@ -94,19 +94,25 @@ impl Targets {
             targets.sentinels.push(SentinelAt { addr, id })?;
         }
         for watched in conf.roster().masters() {
-            let master = watched.name;
-            for node in watched.nodes() {
-                let addr = *node;
-                targets.nodes.push(DataNodeAt { addr, master })?;
-            }
-            let pass = first_of(watch.node_pass(&master), given.of_nodes);
-            let credentials = Credentials::of(alloc, watch.node_user(&master), pass)?;
-            targets.of_masters.push(MasterCredentials {
-                master,
-                credentials,
-            })?;
+            let pass = first_of(watch.node_pass(&watched.name), given.of_nodes);
+            let credentials = Credentials::of(alloc, watch.node_user(&watched.name), pass)?;
+            targets.add_master(watched, credentials)?;
         }
         Ok(targets)
+    }
+
+    /// Adds the data nodes of a master, which are logged in to with these words.
+    fn add_master(&mut self, watched: &Watched, credentials: Credentials) -> Result<(), NoMemory> {
+        let master = watched.name;
+        self.of_masters.push(MasterCredentials {
+            master,
+            credentials,
+        })?;
+        for node in watched.nodes() {
+            let addr = *node;
+            self.nodes.push(DataNodeAt { addr, master })?;
+        }
+        Ok(())
     }
 
     /// The Sentinels at these addresses, and those and the data nodes that they name, with these passwords.
