@@ -103,13 +103,16 @@ fn tells_refusal(kind: WatchKind) -> bool
 fn add_effect(alloc: Global, out: &mut Vec<u8>, text: &[u8]) -> Result<(), NoMemory>
     ensures { OnOk result (out.new.items ≡ out.old.items ++ effect_words (watch_line text.now)) }
 {
-    match line_of(alloc, text)? {
-        WatchLine::Says(setting) if tells_setting(&setting) => {
+    let line = line_of(alloc, text)?;
+    let added = match &line {
+        WatchLine::Says(setting) if tells_setting(setting) => {
             add(out, "this directive counts for `watch` alone")
         }
-        WatchLine::Faulty(kind) if tells_refusal(kind) => add(out, "`watch` refuses this line"),
+        WatchLine::Faulty(kind) if tells_refusal(*kind) => add(out, "`watch` refuses this line"),
         _ => add(out, "this directive has no effect here"),
-    }
+    };
+    drop(line);
+    added
 }
 
 /// Adds what is told of a line.

@@ -90,22 +90,28 @@ fn add_loss(out: &mut Vec<u8>, text: &[u8]) -> Result<(), NoMemory>
 fn add_known(alloc: Global, out: &mut Vec<u8>, text: &[u8]) -> Result<(), NoMemory>
     ensures { OnOk result (out.new.items ≡ out.old.items ++ known_words text.now (watch_line text.now)) }
 {
-    match line_of(alloc, text)? {
+    let line = line_of(alloc, text)?;
+    let added = match &line {
         WatchLine::Other => add_loss(out, text),
-        WatchLine::Says(setting) => add_excess(out, &setting),
+        WatchLine::Says(setting) => add_excess(out, setting),
         WatchLine::Faulty(_) => Ok(()),
-    }
+    };
+    drop(line);
+    added
 }
 
 /// Whether `watch` refuses the line for another reason than that no Redis knows its directive.
 fn is_refused(alloc: Global, text: &[u8]) -> Result<bool, NoMemory>
     ensures { IfOk result (λ refused. refused ≡ is_refused (watch_line text.now)) }
 {
-    match line_of(alloc, text)? {
-        WatchLine::Faulty(WatchKind::UnknownDirective) => Ok(false),
-        WatchLine::Faulty(_) => Ok(true),
-        _ => Ok(false),
-    }
+    let line = line_of(alloc, text)?;
+    let refused = match &line {
+        WatchLine::Faulty(WatchKind::UnknownDirective) => false,
+        WatchLine::Faulty(_) => true,
+        _ => false,
+    };
+    drop(line);
+    Ok(refused)
 }
 
 /// The words of the warning of a line; none where nothing is told of it.
