@@ -21,8 +21,11 @@ const WAIT_MS: u64 = 500;
 /// How long it is between two pages of `--watch`, in milliseconds.
 const WATCH_MS: u64 = 1_000;
 
-/// What a terminal shows as an empty page.
-const CLEAR: &str = "\x1b[H\x1b[2J";
+/// What a terminal shows as an empty page, whose lines it cuts at its width from then on.
+const CLEAR: &str = "\x1b[H\x1b[2J\x1b[?7l";
+
+/// An empty line, after which a terminal goes on with longer lines in the next one, as it does by itself.
+const WRAP: &str = "\n\n\x1b[?7h";
 
 /// What is given, or that memory was refused, which the status tells.
 fn held<T: Drop>(rt: HostRuntime, made: Result<T, NoMemory>) -> Result<T, ExitCode> {
@@ -100,33 +103,47 @@ fn look_until_well(rt: HostRuntime, targets: &Targets, seconds: u32) -> Result<S
     Ok(status)
 }
 
-/// Writes what was seen to standard output, as a page or as JSON, after `front`.
-fn tell_status(rt: HostRuntime, front: &str, status: &Status, json: bool) -> Result<(), ExitCode> {
-    let text = if json {
-        held(rt, status.json(rt.alloc()))?
-    } else {
-        held(rt, status.page(rt.alloc()))?
-    };
-    let mut out = rt.stdout();
-    let written = out
-        .write_all(front.as_bytes())
-        .and_then(|()| out.write_all(text.as_bytes()));
-    match written {
+/// Writes these words to standard output.
+fn tell(rt: HostRuntime, words: &str) -> Result<(), ExitCode> {
+    match rt.stdout().write_all(words.as_bytes()) {
         Ok(()) => Ok(()),
         Err(_) => Err(fail(&rt, ServeFault::Write)),
     }
 }
 
+/// Writes what was seen to standard output, as a page or as JSON.
+fn tell_status(rt: HostRuntime, status: &Status, json: bool) -> Result<(), ExitCode> {
+    let text = if json {
+        held(rt, status.json(rt.alloc()))?
+    } else {
+        held(rt, status.page(rt.alloc()))?
+    };
+    tell(rt, text.as_str())
+}
+
+/// Has a terminal show what was seen in place of what it shows. It cuts the tables at its width, and no sentence.
+fn show_status(rt: HostRuntime, status: &Status) -> Result<(), ExitCode> {
+    let page = held(rt, status.page(rt.alloc()))?;
+    let (tables, sentences) = page
+        .as_str()
+        .rsplit_once("\n\n")
+        .unwrap_or(("", page.as_str()));
+    for words in [CLEAR, tables, WRAP, sentences] {
+        tell(rt, words)?;
+    }
+    Ok(())
+}
+
 /// Looks at the group each second, and writes what is seen, until a signal ends it or nothing can be written.
 fn watch_status(rt: HostRuntime, targets: &Targets, json: bool) -> Result<ExitCode, ExitCode> {
-    let front = if rt.stdout().is_terminal() && !json {
-        CLEAR
-    } else {
-        ""
-    };
+    let on_terminal = rt.stdout().is_terminal() && !json;
     for _ in 0..u64::MAX {
         let status = look(rt, targets)?;
-        tell_status(rt, front, &status, json)?;
+        if on_terminal {
+            show_status(rt, &status)?;
+        } else {
+            tell_status(rt, &status, json)?;
+        }
         thread::sleep(&rt, Duration::from_millis(WATCH_MS));
     }
     Ok(ExitCode::SUCCESS)
@@ -141,7 +158,7 @@ fn tell_group(rt: HostRuntime, words: &ArgMatches) -> Result<ExitCode, ExitCode>
     }
     let seconds = words.get_one::<u32>("wait").unwrap_or(0);
     let status = look_until_well(rt, &targets, seconds)?;
-    tell_status(rt, "", &status, json)?;
+    tell_status(rt, &status, json)?;
     Ok(ExitCode::from(status.exit_status()))
 }
 
